@@ -1,0 +1,4 @@
+pub mod Tests
+pub mod Faces
+pub mod ExtensionTable
+pub mod WorkedExamples

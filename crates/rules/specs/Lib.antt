@@ -1,0 +1,12 @@
+pub mod Pairs
+pub mod Refusals
+pub mod Lists
+pub mod Offers
+pub mod Network
+pub mod Checks
+pub mod Stable
+pub mod Solve
+pub mod Walks
+pub mod Findings
+pub mod Machine
+pub mod Worked
