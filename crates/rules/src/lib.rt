@@ -116,6 +116,12 @@ pub enum Checked {
     Refused(Refusal),
 }
 
+// What a judge says.
+pub enum Verdict {
+    Passes,
+    Refused(Refusal),
+}
+
 // Why an input is refused, with the place where it shows.
 pub enum Refusal {
     OverLimit,
