@@ -18,9 +18,9 @@ use Rattle.rules.specs.declared.Checked.the-variants.{Accepted, Refused}
 use Rattle.rules.specs.Lists.{anyOf}
 use Rattle.rules.specs.Network.{linksOf, withEnds}
 
--- 'Limits: 1,536 links, 512 ASes'
+-- 'Limits: 1,536 links, 512 ASes, text 65,536 bytes, sheet 65,536 bytes'
 abbrev pub baseLimits : Limits
-baseLimits = record { links = 1536; ases = 512 }
+baseLimits = record { links = 1536; ases = 512; text = 65536; sheet = 65536 }
 
 unfoldable pub samePair : Link → Link → Bool
 samePair l k = eqb (l .a) (k .a) && eqb (l .b) (k .b) || eqb (l .a) (k .b) && eqb (l .b) (k .a)

@@ -96,10 +96,12 @@ impl Link {
     }
 }
 
-// How much is taken: links in a list, ASes in a network.
+// How much is taken: links in a list, ASes in a network, bytes of a text and of a sheet.
 pub struct Limits {
     pub links: usize,
     pub ases: usize,
+    pub text: usize,
+    pub sheet: usize,
 }
 
 impl Limits {
@@ -107,6 +109,8 @@ impl Limits {
     pub const BASE: Limits = Limits {
         links: 1536,
         ases: 512,
+        text: 65536,
+        sheet: 65536,
     };
 }
 
