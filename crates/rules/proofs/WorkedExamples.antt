@@ -36,11 +36,12 @@ numbers-same (x ∷ k) (y ∷ l) e =
     let q = numbers-same k l (and-right (eqb x y) (sameNumbers k l) e) in
     cc
 
-row-holds : (es : List Example) → allOf agrees es ≡ true → (e : Example) → In e es → e .found ≡ e .expected
+-- one test over rows gives the statement for each row
+pub rows-hold : (es : List Example) → allOf agrees es ≡ true → (e : Example) → In e es → e .found ≡ e .expected
 unfolding agrees
-row-holds (f ∷ es) t e (inl p) = rw p (numbers-same (f .found) (f .expected) (and-left (agrees f) (allOf agrees es) t))
-row-holds (f ∷ es) t e (inr m) = row-holds es (and-right (agrees f) (allOf agrees es) t) e m
+rows-hold (f ∷ es) t e (inl p) = rw p (numbers-same (f .found) (f .expected) (and-left (agrees f) (allOf agrees es) t))
+rows-hold (f ∷ es) t e (inr m) = rows-hold es (and-right (agrees f) (allOf agrees es) t) e m
 
 -- every row of P1 to P10 holds
 pub worked : (e : Example) → In e examples → e .found ≡ e .expected
-worked = row-holds examples all-agree
+worked = rows-hold examples all-agree

@@ -17,6 +17,7 @@ use Rattle.rules.specs.declared.Verdict.the-variants.{Passes, Refused}
 use Rattle.rules.specs.Pairs.{sameAs}
 use Rattle.rules.specs.Offers.{Arc}
 use Rattle.rules.specs.Network.{asesOf, arcsOf}
+use Rattle.rules.specs.Entry.{andThen}
 use Rattle.rules.specs.Stable.{Line, Routing, lost, due}
 
 pub record Entry : Type 0 where
@@ -72,9 +73,5 @@ abbrev pub bestOffers : List Arc → ℕ → List Entry → Verdict
 bestOffers net d es = bestFrom net d (routingOf es) 0 es
 
 -- '11; 12': all lines stand, then all are best offers
-abbrev pub andThen : Verdict → Verdict → Verdict
-andThen Passes v = v
-andThen (Refused r) v = Refused r
-
 unfoldable pub judge : List Link → ℕ → ℕ → List Entry → Verdict
 judge ls d bound es = andThen (standing bound (asesOf ls) es) (bestOffers (arcsOf ls) d es)

@@ -7,6 +7,7 @@ pub mod Checks
 pub mod Stable
 pub mod Solve
 pub mod Walks
+pub mod Entry
 pub mod Judge
 pub mod Findings
 pub mod Machine
