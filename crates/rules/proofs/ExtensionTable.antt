@@ -10,7 +10,7 @@ use lib.Dec.{T, eqb, leb, eqb→eq}
 use lib.ListN.{getD}
 use borrow.Author.Tests.{leb-true, eqb-true}
 use Rattle.rules.specs.Pairs.{extendType}
-use Rattle.rules.proofs.Tests.{by-cond, and-left, and-right, or-cases}
+use Rattle.rules.proofs.Tests.{by-cond, and-left, and-right, or-one}
 
 -- a test at every number below a bound is one test
 abbrev everyBelow : ℕ → (ℕ → Bool) → Bool
@@ -72,6 +72,6 @@ outside-table k t out =
 
     other : ((eqb k 1 || eqb k 2) && eqb t 1) ≡ true → ⊥
     other f =
-        let a = kind (or-cases (eqb k 1) (eqb k 2) (and-left (eqb k 1 || eqb k 2) (eqb t 1) f)) in
+        let a = kind (or-one (eqb k 1) (eqb k 2) (and-left (eqb k 1 || eqb k 2) (eqb t 1) f)) in
         let b = eqb-true t 1 (and-right (eqb k 1 || eqb k 2) (eqb t 1) f) in
         out (a .0) (a .1) (omega arith) (omega arith)

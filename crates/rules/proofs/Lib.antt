@@ -1,4 +1,10 @@
 pub mod Tests
-pub mod Faces
 pub mod ExtensionTable
+pub mod Faces
+pub mod OfferLaws
+pub mod BestLaws
+pub mod StableFaces
+pub mod Unique
+pub mod Pigeon
+pub mod WalkLaws
 pub mod WorkedExamples
