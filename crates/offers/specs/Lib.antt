@@ -1,0 +1,3 @@
+pub mod Lines
+pub mod Ways
+pub mod Passes
