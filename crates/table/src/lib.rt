@@ -1,0 +1,1 @@
+// The stable table for one destination.
