@@ -56,6 +56,9 @@ pub arcs-cost : (ls : List Link) (a : Arc) → In a (arcsOf ls) → a .cost ≡ 
 unfolding aToB bToA
 arcs-cost ls = by-arc (λ a. a .cost ≡ 1) ls (λ l i m. (refl, refl))
 
+pub arcs-positive : (ls : List Link) (a : Arc) → In a (arcsOf ls) → 1 ≤ a .cost
+arcs-positive ls a m = omega (arith, arcs-cost ls a m)
+
 pub arcs-rank : (ls : List Link) (a : Arc) → In a (arcsOf ls) → a .rank ≡ a .neighbour
 unfolding aToB bToA
 arcs-rank ls = by-arc (λ a. a .rank ≡ a .neighbour) ls (λ l i m. (refl, refl))

@@ -17,4 +17,9 @@ pub mod AcceptedLinks
 pub mod MachineLaws
 pub mod MachineRuns
 pub mod MachineCounts
+pub mod LineLaws
+pub mod JudgeLaws
+pub mod OneSheet
+pub mod AcceptedNetworks
+pub mod NotShortest
 pub mod WorkedExamples

@@ -1,8 +1,10 @@
--- What a test over a list tells of its members. By induction along the list.
+-- What a test over a list tells of its members, and whether a number is one. By induction along the list.
+use Prim.Native.Nat.{ℕ}
 use mathlib.Core.Path.{_≡_, refl, _∙_, ap}
-use mathlib.Core.Logic.{inl, inr, ⊎-elim}
+use mathlib.Core.Logic.{_⊎_, inl, inr, ⊎-elim}
 use mathlib.Core.Bool.{Bool, true, false, _||_, false≢true}
 use mathlib.Core.List.{List, [], _∷_}
+use native.Mathlib.Decide.{ℕ-discrete}
 use Rattle.rules.specs.Lists.{In, anyOf}
 use Rattle.rules.proofs.Tests.{or-one, or-no}
 
@@ -23,3 +25,13 @@ module _ {A : Type 0} (f : A → Bool) where
   pub anyOf-false : (l : List A) → anyOf f l ≡ false → (x : A) → In x l → f x ≡ false
   anyOf-false (y ∷ l) e x (inl q) = ap f q ∙ or-no (f y) (anyOf f l) e .0
   anyOf-false (y ∷ l) e x (inr m) = anyOf-false l (or-no (f y) (anyOf f l) e .1) x m
+
+-- a number stands in a list or does not
+pub in-or-not : (u : ℕ) (l : List ℕ) → In u l ⊎ (In u l → ⊥)
+in-or-not u [] = inr (λ h. h)
+in-or-not u (v ∷ l) = go (ℕ-discrete u v) (in-or-not u l)
+  where
+    go : Dec (u ≡ v) → In u l ⊎ (In u l → ⊥) → In u (v ∷ l) ⊎ (In u (v ∷ l) → ⊥)
+    go (yes e) r = inl (inl e)
+    go (no ne) (inl m) = inl (inr m)
+    go (no ne) (inr out) = inr (λ h. ⊎-elim ne out h)

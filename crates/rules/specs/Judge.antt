@@ -2,6 +2,7 @@
 --
 --   Entry              a line with the number of its AS
 --   entriesOf ws       the whole entries of table words, four per entry; wordsOf es   and back
+--   entriesFor R us    the lines of a routing for the ASes us
 --   routingOf es       the routing that the lines print; unreachable for an AS that has none
 --   standing bound us es   11: the lowest line that cannot stand among lines due for the ASes us
 --   bestOffers net d es    12: the lowest line that is not the one due, the others as printed
@@ -37,6 +38,11 @@ entriesOf (u ∷ t ∷ l ∷ h ∷ ws) = entry u t l h ∷ entriesOf ws
 unfoldable pub wordsOf : List Entry → List ℕ
 wordsOf [] = []
 wordsOf (e ∷ es) = e .number ∷ e .line .pair .typ ∷ e .line .pair .length ∷ e .line .next ∷ wordsOf es
+
+-- the lines of a routing for the ASes us
+unfoldable pub entriesFor : Routing → List ℕ → List Entry
+entriesFor R [] = []
+entriesFor R (u ∷ us) = record { number = u; line = R u } ∷ entriesFor R us
 
 unfoldable pub routingOf : List Entry → Routing
 routingOf [] u = lost u
