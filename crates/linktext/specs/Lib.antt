@@ -1,3 +1,4 @@
 pub mod Lines
 pub mod Texts
 pub mod Entries
+pub mod TextNetworks

@@ -1,14 +1,13 @@
 -- The boundary to Rust: what the four exported functions reply, packed into 64 bits, and what they leave in lent memory.
 --
 --   packed c           a reply as one number: top byte the refusal number, 0 for accepted; then the value, or the place from bit 28 on
---   withLinks t f      f of the links of the text t, or the text's refusal
 --   sheetFault, sheetReply, sheetAfter   text to sheet: 1; lines; 2 to 6; 7; 8
 --   judgeReply         the judge: 1 of both byte strings; lines; as the judge in a room that suffices
 --   findingsReply      1 if a ring, plus 2 if joined
 --   runFault, runReply, tableAfter   a run: 1 of text, choices and deliveries; lines; as the machine in a room that suffices
 use Prim.Native.Nat.{ℕ, _+_, _*_}
-use mathlib.Core.Bool.{Bool, true, false, cond, _&&_}
-use mathlib.Core.List.{List, []}
+use mathlib.Core.Bool.{Bool, true, false, _&&_}
+use mathlib.Core.List.{List}
 use lib.Dec.{leb}
 use lib.ListN.{length}
 use Rattle.rules.specs.declared.Limits.{Limits}
@@ -18,15 +17,14 @@ use Rattle.rules.specs.declared.Refusal.the-variants.{OverLimit}
 use Rattle.rules.specs.declared.Verdict.{Verdict}
 use Rattle.rules.specs.declared.Verdict.the-variants.{Passes, Refused}
 use Rattle.rules.specs.Refusals.{refusalNumber, refusalPlace}
-use Rattle.rules.specs.Network.{flat, asesOf, arcsOf}
-use Rattle.rules.specs.Checks.{checkLinks, roomNeed}
-use Rattle.rules.specs.Entry.{andThen, unless, verdictOf, destinationFault, outputFault, filled}
-use Rattle.rules.specs.Stable.{Routing, tableOf}
+use Rattle.rules.specs.Network.{asesOf, arcsOf}
+use Rattle.rules.specs.Entry.{andThen, unless, destinationFault, outputFault, filled}
+use Rattle.rules.specs.Stable.{tableOf}
 use Rattle.rules.specs.Solve.{stableOf}
 use Rattle.rules.specs.Judge.{entriesFor, judge}
 use Rattle.rules.specs.Findings.{ringed, joined}
 use Rattle.rules.specs.Machine.{Run, runOf, lowest, isQuiet}
-use Rattle.linktext.specs.Texts.{TextRead, links, refused, textIn}
+use Rattle.linktext.specs.TextNetworks.{linksOfText, networkFault}
 use Rattle.sheet.specs.Form.{sheetOf, formFault, destinationOf, linesOf}
 use Rattle.machine.specs.Entries.{choiceFault}
 
@@ -37,22 +35,6 @@ packedNo r = 72057594037927936 * refusalNumber r + 268435456 * refusalPlace r
 abbrev pub packed : Verdict → ℕ → ℕ
 packed Passes value = value
 packed (Refused r) value = packedNo r
-
--- the links of a text, none where it is refused; and the refusal
-abbrev pub linksIn : TextRead → List Link
-linksIn (links ls) = ls
-linksIn (refused r) = []
-
-abbrev pub textFault : TextRead → Verdict
-textFault (links ls) = Passes
-textFault (refused r) = Refused r
-
-abbrev pub linksOfText : Limits → List ℕ → List Link
-linksOfText limits t = linksIn (textIn limits t)
-
--- text, then 2 to 6
-unfoldable pub networkFault : Limits → List ℕ → Verdict
-networkFault limits t = andThen (textFault (textIn limits t)) (verdictOf (checkLinks limits (linksOfText limits t)))
 
 -- text to sheet
 unfoldable pub sheetFault : Limits → List ℕ → ℕ → ℕ → Verdict

@@ -1,0 +1,1 @@
+// The program's body: bytes in, the report or the refusal out.
