@@ -1,0 +1,12 @@
+-- Laws that belong to no one function.
+pub mod Numbers
+pub mod AscendingLaws
+pub mod InsertLaws
+pub mod PlaceLaws
+pub mod PrefixLaws
+pub mod ListedLaws
+pub mod SlotLaws
+pub mod AsTableLaws
+pub mod PairTableLaws
+pub mod StepLaws
+pub mod CheckLaws

@@ -1,0 +1,4 @@
+pub mod Prefix
+pub mod Slots
+pub mod Tables
+pub mod Ascending
