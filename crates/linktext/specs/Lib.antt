@@ -2,3 +2,8 @@ pub mod Lines
 pub mod Texts
 pub mod Entries
 pub mod TextNetworks
+pub mod Fields
+pub mod Scratch
+pub mod Stored
+pub mod Plain
+pub mod Samples

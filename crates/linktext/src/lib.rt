@@ -1,6 +1,9 @@
 // Link texts: the as-rel form, `a|b|-1` for provider a and customer b, `a|b|0` for peers, a line for each link.
 use rules::Link;
-use rules::Refusal;
+
+pub mod line;
+pub mod reading;
+pub mod writing;
 
 // Why a line does not read, with the byte in the line, from 1: the first of the faulty field, the further bar, or one past the line's end.
 pub enum Reason {

@@ -1,0 +1,15 @@
+pub mod PlaceLaws
+pub mod NumberLaws
+pub mod FieldLaws
+pub mod ScratchLaws
+pub mod TurnLaws
+pub mod TextExamples
+pub mod DigitLaws
+pub mod LineLaws
+pub mod TextLaws
+pub mod RoundTrips
+pub mod StoreLaws
+pub mod WordLaws
+pub mod WriteLaws
+pub mod EntryLaws
+pub mod EntryTrips

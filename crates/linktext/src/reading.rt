@@ -1,0 +1,107 @@
+// A whole link text read into words, three per link.
+use crate::LineRead;
+use crate::line::find;
+use crate::line::read_line;
+use rules::Checked;
+use rules::Limits;
+use rules::Link;
+use rules::Refusal;
+ghost use mathlib.Core.Path.{_≡_};
+ghost use Prim.Native.Nat.{_+_, _*_, _≤_};
+ghost use mathlib.Core.List.{_++_};
+ghost use lib.ListN.{length, take, drop};
+ghost use Rattle.rules.specs.Checks.{baseLimits};
+ghost use Rattle.linktext.specs.Texts.{linesOf, readLines, textIn};
+ghost use Rattle.linktext.specs.Entries.{fitted, filled, readReply, wordsAfter};
+ghost use Rattle.linktext.specs.Scratch.{withLink, ReadInto};
+
+const LF: u8 = b'\n';
+
+// Link n into the words.
+fn put_link(words: &mut [u32], n: usize, link: Link)
+    requires { ⌜ 3 * n + 3 ≤ length (now words) ⌝ }
+    ensures { λ _. ⌜ now (words .exit) ≡ withLink (now (words .entry)) n link ⌝ }
+{
+    let at = 3 * n;
+    words[at] = link.a;
+    words[at + 1] = link.b;
+    words[at + 2] = link.relation;
+}
+
+// The lines in order, each link into the words as it comes.
+fn read_lines(text: &[u8], most: usize, words: &mut [u32]) -> Checked
+    requires { ⌜ 3 * most ≤ length (now words) ⌝ }
+    ensures { λ r. ⌜ ReadInto (readLines most 0 1 (linesOf (now (text .entry)))) (now (words .entry)) (now (words .exit)) r ⌝ }
+{
+    let mut at = 0;
+    let mut line: usize = 1;
+    let mut n: usize = 0;
+    while at < text.len() {
+        let end = find(text, at, LF);
+        let read = read_line(&text[at..end]);
+        if let LineRead::Skip = read {} else {
+            let LineRead::Reads(link) = read else {
+                return Checked::Refused(Refusal::Unreadable(line));
+            };
+            if most <= n {
+                return Checked::Refused(Refusal::OverLimit);
+            }
+            put_link(words, n, link);
+            n += 1;
+        }
+        line += 1;
+        at = end + 1;
+    }
+    Checked::Accepted(n)
+}
+
+// A text read into lent scratch; of a refusal the scratch may hold the links before it.
+pub fn read_scratch(text: &[u8], limits: Limits, words: &mut [u32]) -> Checked
+    requires { ⌜ 3 * limits .links ≤ length (now words) ⌝ }
+    ensures { λ r. ⌜ ReadInto (textIn limits (now (text .entry))) (now (words .entry)) (now (words .exit)) r ⌝ }
+{
+    if limits.text < text.len() {
+        return Checked::Refused(Refusal::OverLimit);
+    }
+    let most = limits.links;
+    read_lines(text, most, words)
+}
+
+// `from` over the first words of `to`.
+fn copy(from: &[u32], to: &mut [u32])
+    requires { ⌜ length (now from) ≤ length (now to) ⌝ }
+    ensures { λ _. ⌜ now (to .exit) ≡ now (from .entry) ++ drop (length (now (from .entry))) (now (to .entry)) ⌝ }
+{
+    let mut i = 0;
+    while i < from.len() {
+        to[i] = from[i];
+        i += 1;
+    }
+}
+
+// The words of n links handed over, if they fit.
+fn hand_over(scratch: &[u32], n: usize, words: &mut [u32]) -> Checked
+    requires { ⌜ 3 * n ≤ length (now scratch) ⌝ }
+    ensures reply { λ r. ⌜ r ≡ fitted (length (now (words .entry))) (3 * n) n ⌝ }
+    ensures words { λ r. ⌜ now (words .exit) ≡ filled (take (3 * n) (now (scratch .entry))) (now (words .entry)) ⌝ }
+{
+    let need = 3 * n;
+    if words.len() < need {
+        return Checked::Refused(Refusal::OutputShort);
+    }
+    copy(&scratch[..need], words);
+    Checked::Accepted(n)
+}
+
+// A text read into lent words: the number of its links, or the first refusal, which leaves the words as they were.
+pub fn read_text(text: &[u8], words: &mut [u32]) -> Checked
+    ensures reply { λ r. ⌜ r ≡ readReply baseLimits (now (text .entry)) (length (now (words .entry))) ⌝ }
+    ensures words { λ r. ⌜ now (words .exit) ≡ wordsAfter baseLimits (now (text .entry)) (now (words .entry)) ⌝ }
+{
+    let mut scratch = [0u32; 4608];
+    let read = read_scratch(text, Limits::BASE, &mut scratch);
+    let Checked::Accepted(n) = read else {
+        return read;
+    };
+    hand_over(&scratch, n, words)
+}
