@@ -9,24 +9,12 @@ ghost use mathlib.Core.List.{_∷_, [], _++_};
 ghost use Prim.Native.Nat.{_+_, _*_, _<_, _≤_};
 ghost use lib.ListN.{length};
 ghost use lib.Seq.{sets};
-ghost use Rattle.rules.specs.Network.{linksOf, linkAt};
+ghost use Rattle.rules.specs.Network.{linksOf};
 ghost use Rattle.rules.specs.Checks.{baseLimits};
 ghost use Rattle.linktext.specs.Lines.{bar, lf};
 ghost use Rattle.linktext.specs.Texts.{decimal, relationText, lineText, textOf, relationFault, textFault};
 ghost use Rattle.linktext.specs.Entries.{fitted, filled, writeReply, bytesAfter};
 ghost use Rattle.linktext.specs.Stored.{Stored};
-
-// Link i of the words.
-fn link_at(words: &[u32], i: usize) -> Link
-    requires { ⌜ 3 * i + 3 ≤ length (now words) ⌝ }
-    ensures { λ r. ⌜ r ≡ linkAt (now (words .entry)) i ⌝ }
-{
-    Link {
-        a: words[3 * i],
-        b: words[3 * i + 1],
-        relation: words[3 * i + 2],
-    }
-}
 
 // Refusal 3 at the first link whose relation is not 0 or 1.
 fn relation_fault(words: &[u32]) -> Verdict
@@ -35,7 +23,7 @@ fn relation_fault(words: &[u32]) -> Verdict
     let m = words.len() / 3;
     let mut i = 0;
     while i < m {
-        let l = link_at(words, i);
+        let l = network::link_at(words, i);
         if 1 < l.relation {
             return Verdict::Refused(Refusal::NoRelation(i));
         }
@@ -96,7 +84,7 @@ fn text_length(words: &[u32]) -> usize
     let mut total: usize = 0;
     let mut i = 0;
     while i < m {
-        total += line_length(link_at(words, i));
+        total += line_length(network::link_at(words, i));
         i += 1;
     }
     total
@@ -172,7 +160,7 @@ fn put_text(words: &[u32], bytes: &mut [u8])
     let mut at: usize = 0;
     let mut i = 0;
     while i < m {
-        at = put_line(bytes, at, link_at(words, i));
+        at = put_line(bytes, at, network::link_at(words, i));
         i += 1;
     }
 }
