@@ -3,13 +3,12 @@
 --   asOffer o          an offer in code as an offer of the rules
 --   Wide t n           lengths of the first n entries leave room for one link more
 --   offersTo ls t n    each AS's line as the best offer that the first n entries of t give it
-use Prim.Native.Nat.{ℕ, _*_, _≤_, _<_}
+use Prim.Native.Nat.{ℕ, _<_}
 use mathlib.Core.List.{List}
-use lib.ListN.{length}
 use Rattle.rules.specs.declared.Link.{Link}
 use Rattle.rules.specs.Offers.{Offer, best}
-use Rattle.rules.specs.Network.{asesOf, arcsOf}
-use Rattle.rules.specs.Stable.{Line, Routing, lineOf, told}
+use Rattle.rules.specs.Network.{arcsOf}
+use Rattle.rules.specs.Stable.{Routing, lineOf, told}
 use Rattle.offers.specs.declared.Offered.{Offered}
 use Rattle.offers.specs.Lines.{lengthAt, printed}
 

@@ -5,7 +5,7 @@
 --   placesOf us ls     where the ends stand: word k is the place of who tells over direction k
 --   wayAt ls ps k      direction k with its ends' places
 --   arcAt ls k         arc k of the network
-use Prim.Native.Nat.{ℕ, zero, suc, _+_, _-_, _*_, _/_, _%_}
+use Prim.Native.Nat.{ℕ, suc, _+_, _-_, _/_, _%_}
 use mathlib.Core.Bool.{cond}
 use mathlib.Core.List.{List, [], _∷_, map}
 use lib.Dec.{eqb}

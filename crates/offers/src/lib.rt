@@ -1,5 +1,20 @@
 // The one shared election: what is offered over a direction, the best offer so far, and the pass that finds every AS's best offer.
+ghost use Prim.Native.Nat.{_+_, _*_, _/_, _≤_, _<_};
+ghost use mathlib.Core.Path.{_≡_};
+ghost use lib.ListN.{length};
+ghost use Rattle.rules.specs.Offers.{better};
+ghost use Rattle.rules.specs.Network.{linksOf};
+ghost use Rattle.offers.specs.Lines.{numberAt, pairAt, nextAt, putLine};
+ghost use Rattle.offers.specs.Ways.{wayAt};
+ghost use Rattle.offers.specs.Placing.{Placing, withPlaces};
+ghost use Rattle.offers.specs.Passes.{asOffer};
+ghost use Rattle.offers.specs.Electing.{Electing, withOffers};
+ghost use Rattle.offers.specs.Steps.{offerOf, Fair, Considered};
+use network::WORDS_PER_LINK;
 use rules::TypeLength;
+
+mod ends;
+mod pass;
 
 // A direction with its ends as places among the ascending ASes, its kind seen from the hearer, and its cost.
 pub struct Way {
@@ -14,4 +29,118 @@ pub struct Offered {
     pub pair: TypeLength,
     pub rank: u32,
     pub next: u32,
+}
+
+impl Offered {
+    // Smaller type wins, then smaller length, then smaller rank.
+    pub fn wins(self, other: Offered) -> bool
+        ensures { λ r. ⌜ r ≡ better (asOffer self) (asOffer other) ⌝ }
+    {
+        let pair = self.pair;
+        let held = other.pair;
+        if pair.same(held) {
+            return self.rank < other.rank;
+        }
+        pair.beats(held)
+    }
+}
+
+// Words per table entry: number, type, length, next hop.
+pub const WORDS_PER_ENTRY: usize = 4;
+
+// The AS of entry i.
+pub fn number_at(t: &[u32], i: usize) -> u32
+    requires { ⌜ 4 * i + 4 ≤ length (now t) ⌝ }
+    ensures { λ r. ⌜ r ≡ numberAt (now (t .entry)) i ⌝ }
+{
+    t[WORDS_PER_ENTRY * i]
+}
+
+// The pair of entry i.
+pub fn pair_at(t: &[u32], i: usize) -> TypeLength
+    requires { ⌜ 4 * i + 4 ≤ length (now t) ⌝ }
+    ensures { λ r. ⌜ r ≡ pairAt (now (t .entry)) i ⌝ }
+{
+    let at = WORDS_PER_ENTRY * i;
+    TypeLength {
+        typ: t[at + 1],
+        length: t[at + 2],
+    }
+}
+
+// The next hop of entry i.
+pub fn next_at(t: &[u32], i: usize) -> u32
+    requires { ⌜ 4 * i + 4 ≤ length (now t) ⌝ }
+    ensures { λ r. ⌜ r ≡ nextAt (now (t .entry)) i ⌝ }
+{
+    t[WORDS_PER_ENTRY * i + 3]
+}
+
+// Entry i gets a line; its number stays.
+pub fn put_line(t: &mut [u32], i: usize, pair: TypeLength, next: u32)
+    requires { ⌜ 4 * i + 4 ≤ length (now t) ⌝ }
+    ensures { λ _. ⌜ now (t .exit) ≡ putLine (now (t .entry)) i (record { pair = pair; next = next }) ⌝ }
+{
+    let at = WORDS_PER_ENTRY * i;
+    t[at + 1] = pair.typ;
+    t[at + 2] = pair.length;
+    t[at + 3] = next;
+}
+
+// Where the ends of the links stand among their ASes, which are the first n words of a list: two words per link, a's place and b's.
+pub fn place_ends(words: &[u32], list: &[u32], n: usize, places: &mut [u32])
+    requires { ⌜ Placing (now words) (now list) n (now places) ⌝ }
+    ensures { λ _. ⌜ now (places .exit) ≡ withPlaces (linksOf (now (words .entry))) (now (places .entry)) ⌝ }
+{
+    let m = words.len() / WORDS_PER_LINK;
+    let mut i = 0;
+    while i < m {
+        ends::place_link(words, list, n, places, i);
+        i += 1;
+    }
+}
+
+// Direction k: 2i from a to b of link i, 2i + 1 from b to a.
+pub fn way_at(words: &[u32], places: &[u32], k: usize) -> Way
+    requires { ⌜ (3 * (k / 2) + 3 ≤ length (now words)) × (2 * (k / 2) + 2 ≤ length (now places)) ⌝ }
+    ensures { λ r. ⌜ r ≡ wayAt (linksOf (now (words .entry))) (now (places .entry)) k ⌝ }
+{
+    let link = network::link_at(words, k / 2);
+    Way {
+        hearer: ends::place_at(places, ends::partner(k)),
+        neighbour: ends::place_at(places, k),
+        kind: ends::kind_over(link, k),
+        cost: 1,
+    }
+}
+
+// The offer that a line stands for: of equal pairs the smaller next hop is better.
+pub fn offer_of(pair: TypeLength, next: u32) -> Offered
+    ensures { λ r. ⌜ r ≡ offerOf pair next ⌝ }
+{
+    let rank = if pair.typ < 4 { next } else { 0 };
+    Offered { pair, rank, next }
+}
+
+// The better of the best offer so far and what a neighbour, numbered `from` and with the pair that it told, offers over a direction.
+pub fn consider(best: Offered, way: Way, from: u32, told: TypeLength) -> Offered
+    requires { ⌜ (told .length + way .cost < 4294967296) × Fair best ⌝ }
+    ensures { λ r. ⌜ Considered best way from told r ⌝ }
+{
+    let new = offer_of(told.extended(way.kind, way.cost), from);
+    if new.wins(best) { new } else { best }
+}
+
+// Every AS's line as the best offer that the first n lines of a table give it, the others as told. One pass over the directions.
+pub fn elect_links(words: &[u32], places: &[u32], told: &[u32], best: &mut [u32], n: usize)
+    requires { ⌜ Electing (linksOf (now words)) (now places) (now told) n × (4 * n ≤ length (now best)) ⌝ }
+    ensures { λ _. ⌜ now (best .exit) ≡ withOffers (linksOf (now (words .entry))) (now (told .entry)) n (now (best .entry)) ⌝ }
+{
+    pass::put_nones(told, best, n);
+    let m = 2 * (words.len() / WORDS_PER_LINK);
+    let mut k = 0;
+    while k < m {
+        pass::hear(words, places, told, best, k);
+        k += 1;
+    }
 }

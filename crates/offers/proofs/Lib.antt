@@ -1,0 +1,9 @@
+pub mod ConsiderLaws
+pub mod PlaceLaws
+pub mod WayLaws
+pub mod FillLaws
+pub mod EndLaws
+pub mod TableLaws
+pub mod ElectLaws
+pub mod PassLaws
+pub mod HearLaws
