@@ -12,7 +12,7 @@ use Rattle.rules.specs.Network.{insert}
 use Rattle.network.specs.Slots.{slot, filled, Stopped, Stored}
 use Rattle.network.specs.Tables.{asHome, isAs, Counted, Open, Noted}
 use Rattle.network.proofs.Numbers.{same?}
-use Rattle.network.proofs.AscendingLaws.{insert-in, insert-keeps, insert-only, insert-ascending}
+use Rattle.rules.proofs.Ascending.{insert-in, insert-keeps, insert-only, insert-ascending}
 use Rattle.network.proofs.InsertLaws.{insert-there, insert-new}
 use Rattle.network.proofs.SlotLaws.{filled-set, filled-none, slot-none, set-here, set-other, put, absent, stopped-hit, at-home, never}
 

@@ -1,5 +1,5 @@
 -- The check of a list of link words around its loop: the tests on the list's length, and tables of zeros as its start.
-use Prim.Native.Nat.{ℕ, _+_, _-_, _/_, _%_, _≤_, _<_}
+use Prim.Native.Nat.{ℕ, _+_, _-_, _%_, _≤_, _<_}
 use mathlib.Core.Path.{_≡_, sym, ap}
 use mathlib.Core.Logic.{_≢_}
 use mathlib.Core.List.{List}
@@ -11,24 +11,25 @@ use Rattle.rules.specs.declared.Refusal.the-variants.{OverLimit}
 use Rattle.rules.specs.declared.Checked.the-variants.{Refused}
 use Rattle.rules.specs.Network.{linksOf}
 use Rattle.rules.specs.Checks.{checkLinks, checkWords}
+use Rattle.network.specs.Promises.{perLink, countOf, Fresh}
 use Rattle.network.specs.Prefix.{checkAt}
-use Rattle.network.specs.Tables.{Starting, Fresh}
+use Rattle.network.specs.Tables.{Starting}
 use Rattle.network.proofs.PrefixLaws.{count}
 
 module _ (limits : Limits) (ws : List ℕ) where
-  pub broken : length ws % 3 ≢ 0 → Refused OverLimit ≡ checkWords limits ws
+  pub broken : length ws % perLink ≢ 0 → Refused OverLimit ≡ checkWords limits ws
   unfolding checkWords
   broken h = simp (ne-eqb _ _ h)
 
-  pub too-many-links : length ws % 3 ≡ 0 → limits .links < length ws / 3 → Refused OverLimit ≡ checkWords limits ws
+  pub too-many-links : length ws % perLink ≡ 0 → limits .links < countOf ws → Refused OverLimit ≡ checkWords limits ws
   unfolding checkWords checkLinks
   too-many-links z h = simp (eq-eqb _ _ z, lt-ltb (limits .links) (length (linksOf ws)) (omega (arith, count ws)))
 
-  pub whole : length ws % 3 ≡ 0 → length ws / 3 ≤ limits .links → checkAt limits ws 0 ≡ checkWords limits ws
+  pub whole : length ws % perLink ≡ 0 → countOf ws ≤ limits .links → checkAt limits ws 0 ≡ checkWords limits ws
   unfolding checkWords checkLinks checkAt
   whole z h = simp (eq-eqb _ _ z, le-ltb (limits .links) (length (linksOf ws)) (omega (arith, count ws)))
 
-pub starting : {limits : Limits} {ws seats pairs : List ℕ} → Fresh limits seats pairs → length ws / 3 ≤ limits .links
+pub starting : {limits : Limits} {ws seats pairs : List ℕ} → Fresh limits seats pairs → countOf ws ≤ limits .links
     → Starting limits (record { ases = length seats - limits .ases - 1; pairs = length pairs - limits .links }) ws seats pairs
 starting f h = record {
   sized = record {

@@ -1,6 +1,5 @@
 -- Laws that belong to no one function.
 pub mod Numbers
-pub mod AscendingLaws
 pub mod InsertLaws
 pub mod PlaceLaws
 pub mod PrefixLaws

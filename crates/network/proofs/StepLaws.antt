@@ -1,5 +1,5 @@
 -- One link of the check, and all of them: what is left of the definition at place i is what is left at place i + 1, or a refusal.
-use Prim.Native.Nat.{ℕ, _+_, _/_, _≤_, _<_}
+use Prim.Native.Nat.{ℕ, _+_, _≤_, _<_}
 use mathlib.Core.Path.{_≡_, sym, ap, _∙_, subst}
 use mathlib.Core.Bool.{Bool, true, false, cond}
 use mathlib.Core.List.{List}
@@ -17,6 +17,7 @@ use Rattle.rules.specs.declared.Checked.the-variants.{Accepted, Refused}
 use Rattle.rules.specs.Lists.{anyOf}
 use Rattle.rules.specs.Network.{linkAt, withEnds}
 use Rattle.rules.specs.Checks.{samePair, checkFrom}
+use Rattle.network.specs.Promises.{countOf}
 use Rattle.network.specs.Prefix.{linksFrom, seenAt, asesAt, checkAt, ownFault, Sound, Looked}
 use Rattle.network.specs.Tables.{Counted, Open, NotedEnds, Paired, Tables, Sized, Stepping, Stepped, Starting}
 use Rattle.network.specs.declared.steps.Homes.{Homes}
@@ -108,7 +109,7 @@ tables-none {limits} {homes} {ws} {seats} {pairs} g = record {
   few = omega arith;
 }
 
-pub check-end : (limits : Limits) (ws : List ℕ) (i n : ℕ) → length ws / 3 ≤ i → n ≡ length (asesAt ws i) → Accepted n ≡ checkAt limits ws i
+pub check-end : (limits : Limits) (ws : List ℕ) (i n : ℕ) → countOf ws ≤ i → n ≡ length (asesAt ws i) → Accepted n ≡ checkAt limits ws i
 unfolding checkAt checkFrom
 check-end limits ws i n h e =
     ap Accepted e ∙ sym (ap (checkFrom limits (seenAt ws i) (asesAt ws i) i) (links-end ws i h))

@@ -1,4 +1,5 @@
+pub mod Promises
 pub mod Prefix
 pub mod Slots
 pub mod Tables
-pub mod Ascending
+pub mod Sorting

@@ -21,9 +21,10 @@ use Rattle.rules.specs.declared.Checked.{Checked}
 use Rattle.rules.specs.declared.Checked.the-variants.{Accepted, Refused}
 use Rattle.rules.specs.Network.{linksOf, linkAt, withEnds}
 use Rattle.rules.specs.Checks.{checkFrom}
+use Rattle.network.specs.Promises.{perLink}
 
 abbrev pub linksFrom : List ℕ → ℕ → List Link
-linksFrom ws i = linksOf (drop (3 * i) ws)
+linksFrom ws i = linksOf (drop (perLink * i) ws)
 
 abbrev pub seenAt : List ℕ → ℕ → List Link
 seenAt ws zero = []

@@ -4,8 +4,8 @@
 --   pairHome homes l   where the search for the pair of link l begins; isPair ws l v   slot value v is a link that joins it
 --   Counted homes known t n   table t holds the n ASes known
 --   Pairs homes ws i t   table t holds the links before place i, link j as j + 1
---   Tables, Fresh      both tables, after some links and before the first
---   Open, Noted, NotedEnds, Pairing, Paired, Stepping, Stepped   what the steps ask and say
+--   Tables limits homes ws i n seats pairs   both tables, after the links before place i
+--   Open, Noted, NotedEnds, Places, Pairing, Paired, Sized, Stepping, Stepped, Starting   what the steps ask and say
 use Prim.Native.Nat.{ℕ, _+_, _-_, _*_, _/_, _%_, _≤_, _<_}
 use mathlib.Core.Path.{_≡_}
 use mathlib.Core.Logic.{_≢_}
@@ -22,7 +22,8 @@ use Rattle.rules.specs.Network.{linkAt, insert, withEnds}
 use Rattle.rules.specs.Checks.{samePair}
 use Rattle.network.specs.Prefix.{seenAt, asesAt, checkAt}
 use Rattle.network.specs.Slots.{slot, filled, spreadOf, Homed, Seated, Stored}
-use Rattle.network.specs.Ascending.{Ascending}
+use Rattle.rules.specs.Ascending.{Ascending}
+use Rattle.network.specs.Promises.{perLink, countOf, HasLink}
 use Rattle.network.specs.declared.steps.Homes.{Homes}
 
 unfoldable pub asHome : ℕ → ℕ → ℕ
@@ -31,10 +32,10 @@ asHome homes x = spreadOf homes (x * 1640531527)
 abbrev pub isAs : ℕ → ℕ → Bool
 isAs x v = eqb v x
 
--- the same for both ends' order, since it takes their product
 abbrev pub folded : ℕ → ℕ
 folded m = m % 4294967296 + 5 * (m / 4294967296)
 
+-- from the product of the ends, which does not go by their order
 unfoldable pub pairHome : ℕ → Link → ℕ
 pairHome homes l = spreadOf homes (folded (l .a * l .b) * 663608941)
 
@@ -52,7 +53,7 @@ pub record Counted (homes : ℕ) (known t : List ℕ) (n : ℕ) : Type 0 where
   pub count : n ≡ length known
   pub ascending : Ascending known
 
--- room for spare ASes more than one, in a table of n
+-- a table of n ASes, with room for one more and for spare beyond it
 pub record Open (homes : ℕ) (t : List ℕ) (n spare : ℕ) : Type 0 where
   pub homed : Homed homes
   pub count : filled t ≡ n
@@ -77,13 +78,13 @@ pub record Pairs (homes : ℕ) (ws : List ℕ) (i : ℕ) (t : List ℕ) : Type 0
 
 -- what is stored are links
 pub record Places (ws t : List ℕ) : Type 0 where
-  pub places : (s : ℕ) → 3 * slot t s ≤ length ws
+  pub places : (s : ℕ) → perLink * slot t s ≤ length ws
 
 -- link i, and the table of those before it
 pub record Pairing (homes : ℕ) (ws : List ℕ) (i : ℕ) (t : List ℕ) : Type 0 where
   pub homed : Homed homes
   pub table : Pairs homes ws i t
-  pub link : 3 * i + 3 ≤ length ws
+  pub link : HasLink ws i
   pub small : i + 1 < 4294967296
   pub fits : homes + i ≤ length t
 
@@ -110,7 +111,7 @@ pub record Sized (limits : Limits) (homes : Homes) (seats pairs : List ℕ) : Ty
 pub record Stepping (limits : Limits) (homes : Homes) (ws : List ℕ) (i n : ℕ) (seats pairs : List ℕ) : Type 0 where
   pub sized : Sized limits homes seats pairs
   pub tables : Tables limits homes ws i n seats pairs
-  pub link : 3 * i + 3 ≤ length ws
+  pub link : HasLink ws i
   pub few : i < limits .links
 
 -- the reply to link i: a refusal is that to the whole rest; else the rest goes on with the n ASes known now
@@ -124,13 +125,4 @@ pub record Starting (limits : Limits) (homes : Homes) (ws seats pairs : List ℕ
   pub sized : Sized limits homes seats pairs
   pub seats-zero : seats ≡ replicate (length seats) 0
   pub pairs-zero : pairs ≡ replicate (length pairs) 0
-  pub few : length ws / 3 ≤ limits .links
-
--- what the check asks of its two tables: zero, and room for the limits
-pub record Fresh (limits : Limits) (seats pairs : List ℕ) : Type 0 where
-  pub seats-zero : seats ≡ replicate (length seats) 0
-  pub pairs-zero : pairs ≡ replicate (length pairs) 0
-  pub seats-long : limits .ases + 1 < length seats
-  pub pairs-long : limits .links < length pairs
-  pub seats-small : length seats < 4294967296
-  pub pairs-small : length pairs < 4294967296
+  pub few : countOf ws ≤ limits .links

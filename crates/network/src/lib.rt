@@ -1,11 +1,11 @@
 // A lent list of link words, three per link: its check, its ASes in ascending order, and the working room that it needs.
-ghost use Prim.Native.Nat.{_+_, _*_, _≤_, _<_};
+ghost use Prim.Native.Nat.{_≤_, _<_};
 ghost use mathlib.Core.Path.{_≡_};
 ghost use lib.ListN.{length, take, replicate};
 ghost use Rattle.rules.specs.Network.{linksOf, linkAt, asesOf};
 ghost use Rattle.rules.specs.Checks.{baseLimits, checkWords, roomNeed};
-ghost use Rattle.network.specs.Tables.{Fresh};
-ghost use Rattle.network.specs.Ascending.{Ascending, Stands, Listed};
+ghost use Rattle.rules.specs.Ascending.{Ascending};
+ghost use Rattle.network.specs.Promises.{HasLink, Fresh, Stands, Listed};
 use rules::Checked;
 use rules::Limits;
 use rules::Link;
@@ -20,7 +20,7 @@ pub const WORDS_PER_LINK: usize = 3;
 
 // Link i of the words.
 pub fn link_at(words: &[u32], i: usize) -> Link
-    requires { ⌜ 3 * i + 3 ≤ length (now words) ⌝ }
+    requires { ⌜ HasLink (now words) i ⌝ }
     ensures { λ r. ⌜ r ≡ linkAt (now (words .entry)) i ⌝ }
 {
     let at = WORDS_PER_LINK * i;

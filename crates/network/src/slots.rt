@@ -1,6 +1,6 @@
 // The two tables of the check: ASes, and links by the pair that they join. A search begins at a home and goes up to what it looks
 // for or to an empty slot, 0; the slots past the homes spare it from wrapping round.
-ghost use Prim.Native.Nat.{_+_, _*_, _≤_, _<_};
+ghost use Prim.Native.Nat.{_*_, _<_};
 ghost use mathlib.Core.Path.{_≡_};
 ghost use lib.ListN.{length};
 ghost use Rattle.rules.specs.Checks.{samePair};
@@ -25,6 +25,7 @@ fn as_home(x: u32, homes: usize) -> usize
     spread((x as u64) * 1640531527, homes)
 }
 
+// The whole product of two numbers of 32 bits.
 fn product(a: u32, b: u32) -> u64
     ensures { λ r. ⌜ r ≡ a * b ⌝ }
 {

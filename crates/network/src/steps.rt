@@ -1,5 +1,4 @@
 // The check link by link, in list order.
-ghost use Prim.Native.Nat.{_+_, _*_, _≤_, _<_};
 ghost use mathlib.Core.Path.{_≡_};
 ghost use Rattle.network.specs.Prefix.{checkAt, Looked};
 ghost use Rattle.network.specs.Tables.{Stepping, Stepped, Starting};

@@ -13,8 +13,9 @@ use Rattle.rules.specs.Network.{linksOf, linkAt, withEnds, asesFrom, asesOf}
 use Rattle.rules.proofs.NetworkLaws.{Ends, ases-in}
 use Rattle.network.specs.declared.Place.{Place}
 use Rattle.network.specs.declared.Place.the-variants.{At, Nowhere}
-use Rattle.network.specs.Ascending.{Ascending, Stands, Listed}
-use Rattle.network.proofs.AscendingLaws.{withEnds-ascending}
+use Rattle.rules.specs.Ascending.{Ascending}
+use Rattle.network.specs.Promises.{Stands, Listed}
+use Rattle.rules.proofs.NetworkLaws.{withEnds-ascending}
 use Rattle.network.proofs.InsertLaws.{ascending-at}
 use Rattle.network.proofs.ListedLaws.{listed-front}
 use Rattle.network.proofs.PrefixLaws.{count}

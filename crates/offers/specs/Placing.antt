@@ -15,7 +15,7 @@ use Rattle.rules.specs.declared.Link.{Link}
 use Rattle.rules.specs.Pairs.{kindFromA, kindFromB}
 use Rattle.rules.specs.Lists.{In}
 use Rattle.rules.specs.Network.{linksOf, asesOf}
-use Rattle.network.specs.Ascending.{Ascending}
+use Rattle.rules.specs.Ascending.{Ascending}
 use Rattle.offers.specs.Ways.{placeIn, placesOf}
 
 abbrev pub kindOver : Link → ℕ → ℕ

@@ -19,7 +19,7 @@ use Rattle.rules.specs.Walks.{Leads, Permitted, Followed}
 use Rattle.rules.specs.Machine.{runOf, lowest, isQuiet}
 use Rattle.rules.specs.Judge.{Entry, entriesFor, judge}
 use Rattle.rules.proofs.Faces.{typ, len}
-use Rattle.rules.proofs.Ascending.{Ascending}
+use Rattle.rules.specs.Ascending.{Ascending}
 use Rattle.rules.proofs.BestLaws.{Ranked}
 use Rattle.rules.proofs.StableFaces.{stable-settled}
 use Rattle.rules.proofs.Exists.{exactly-one}

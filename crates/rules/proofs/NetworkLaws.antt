@@ -11,7 +11,8 @@ use lib.ListN.{length}
 use Rattle.rules.specs.declared.Link.{Link}
 use Rattle.rules.specs.Lists.{In, Distinct}
 use Rattle.rules.specs.Network.{linksOf, flat, insert, withEnds, asesFrom, asesOf}
-use Rattle.rules.proofs.Ascending.{Ascending, ascending-distinct, insert-in, insert-keeps, insert-only, insert-ascending, insert-length}
+use Rattle.rules.specs.Ascending.{Ascending}
+use Rattle.rules.proofs.Ascending.{ascending-distinct, insert-in, insert-keeps, insert-only, insert-ascending, insert-length}
 
 -- words
 pub linksOf-flat : (ls : List Link) → linksOf (flat ls) ≡ ls
@@ -54,7 +55,7 @@ withEnds-only l known u m =
     ⊎-elim (λ e. inl (inr e)) (λ n. ⊎-elim (λ e. inl (inl e)) (λ k. inr k) (insert-only (l .a) u known n))
     (insert-only (l .b) u (insert (l .a) known) m)
 
-withEnds-length : (l : Link) (known : List ℕ)
+pub withEnds-length : (l : Link) (known : List ℕ)
     → (length known ≤ length (withEnds l known)) × (length (withEnds l known) ≤ 2 + length known)
 unfolding withEnds
 withEnds-length l known = omega (arith, insert-length (l .a) known, insert-length (l .b) (insert (l .a) known))

@@ -1,6 +1,7 @@
 pub mod Pairs
 pub mod Refusals
 pub mod Lists
+pub mod Ascending
 pub mod Offers
 pub mod Network
 pub mod Checks
