@@ -14,7 +14,7 @@ use Rattle.rules.proofs.OfferLaws.{ext-cell, ext-range, extension-is, extension
 use Rattle.offers.specs.declared.Way.{Way}
 use Rattle.offers.specs.declared.Offered.{Offered}
 use Rattle.offers.specs.Passes.{asOffer}
-use Rattle.offers.specs.Steps.{offerOf, Fair, OverWay}
+use Rattle.offers.specs.Steps.{offerOf, Fair, OverWay, Considered}
 
 -- fair is at most any unreachable one
 pub fair-le : {o : Offered} → Fair o → (x : Offer) → x .pair .typ ≡ 4 → Le (asOffer o) x
@@ -47,7 +47,7 @@ module _ (w : Way) (from : ℕ) (a : Arc) (over : OverWay w from a) (p : TypeLen
       rw (offer-is a p c, is, k, t, over .rank, over .neighbour)
 
   -- the comparison with the offer over the arc is the one that the code makes
-  pub consider-is : (o : Offered) → Fair o → choose (asOffer o) (asOffer x) ≡ choose (asOffer o) (offer a p)
+  consider-is : (o : Offered) → Fair o → choose (asOffer o) (asOffer x) ≡ choose (asOffer o) (offer a p)
   unfolding none
   consider-is o f = go (ℕ-discrete (extendType (a .kind) (p .typ)) 4)
     where
@@ -60,6 +60,11 @@ module _ (w : Way) (from : ℕ) (a : Arc) (over : OverWay w from a) (p : TypeLen
           (choose-keeps (asOffer o) (asOffer x) (fair-le f (asOffer x) (lost e))
           ∙ sym (choose-keeps (asOffer o) (none (a .hearer)) (fair-le f (none (a .hearer)) refl)))
       go (no ne) = ap (choose (asOffer o)) (sym (reached (ext-cell (a .kind) (p .typ) ne)))
+
+-- r: what it returns
+pub considered : {o : Offered} → Fair o → {w : Way} {from : ℕ} {p : TypeLength} {x : Offered} → x ≡ offerOf (extension (w .kind) (w .cost) p) from
+    → {r : Offered} → choose (asOffer o) (asOffer x) ≡ asOffer r → Considered o w from p r
+considered {o} f {w} {from} {p} {x} is e = record { chosen = λ a over. sym e ∙ consider-is w from a over p x is o f }
 
 -- the tests of the code
 pub better-rank : (x y : Offer) → sameAs (x .pair) (y .pair) ≡ true → better x y ≡ ltb (x .rank) (y .rank)

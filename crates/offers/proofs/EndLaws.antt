@@ -9,13 +9,11 @@ use lib.ListN.{length, getD, set, take, drop, length-append, length-take, length
 use lib.Seq.{length-take-le, take-length, take-at, getD-take}
 use Rattle.rules.specs.declared.Link.{Link}
 use Rattle.rules.specs.Lists.{In}
-use Rattle.rules.specs.Network.{linksOf, linkAt, withEnds, asesFrom, asesOf}
-use Rattle.rules.proofs.NetworkLaws.{Ends, ases-in}
+use Rattle.rules.specs.Network.{linksOf, linkAt, asesOf}
+use Rattle.rules.proofs.NetworkLaws.{Ends, ases-ascending, ases-in}
 use Rattle.network.specs.declared.Place.{Place}
 use Rattle.network.specs.declared.Place.the-variants.{At, Nowhere}
-use Rattle.rules.specs.Ascending.{Ascending}
 use Rattle.network.specs.Promises.{Stands, Listed}
-use Rattle.rules.proofs.NetworkLaws.{withEnds-ascending}
 use Rattle.network.proofs.InsertLaws.{ascending-at}
 use Rattle.network.proofs.ListedLaws.{listed-front}
 use Rattle.network.proofs.PrefixLaws.{count}
@@ -52,11 +50,6 @@ module _ {l : List ℕ} {n x : ℕ} (a : Among l n x) where
       go h f (no b) (yes d) = absurd (omega (arith, ascending-at (take n l) (a .ascending) (placeIn (take n l) x) i d h, stands .1))
       go h f (no b) (no d) = omega arith
 
-ases-ascend : (known : List ℕ) (ls : List Link) → Ascending known → Ascending (asesFrom known ls)
-unfolding asesFrom
-ases-ascend known [] h = h
-ases-ascend known (l ∷ ls) h = ases-ascend (withEnds l known) ls (withEnds-ascending l known h)
-
 -- the ends of the links are among the first n words, which ascend
 module _ {ws l : List ℕ} {n : ℕ} {ps : List ℕ} (w : Placing ws l n ps) where
   pub ends-among : (i x : ℕ) → i < length (linksOf ws) → Ends x (linkAt ws i) → Among l n x
@@ -66,7 +59,7 @@ module _ {ws l : List ℕ} {n : ℕ} {ps : List ℕ} (w : Placing ws l n ps) whe
       record {
         within = omega (arith, simp length-take at (ap length (w .list)), w .count);
         few = w .few;
-        ascending = rw (w .list) (ases-ascend [] (linksOf ws) tt);
+        ascending = rw (w .list) (ases-ascending (linksOf ws));
         member = rw (w .list) (ases-in (linksOf ws) x (linkAt ws i) m e);
       }
 

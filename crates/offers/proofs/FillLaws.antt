@@ -10,7 +10,8 @@ module _ (p old : List ℕ) (n : ℕ) (is : length p ≡ n) where
   fill-run : (vs : List ℕ) → n + length vs ≤ length old → sets (p ++ drop n old) n vs ≡ p ++ vs ++ drop (n + length vs) old
   fill-run vs h =
       let l = p ++ drop n old in
-      let rest : drop (n + length vs) l ≡ drop (n + length vs) old = rw (← is) (drop-append-add p (drop (length p) old) (length vs) ∙ drop-drop (length vs) (length p) old) in
+      let rest : drop (n + length vs) l ≡ drop (n + length vs) old =
+      rw (← is) (drop-append-add p (drop (length p) old) (length vs) ∙ drop-drop (length vs) (length p) old) in
       sets-eq vs l n (simp (length-append, length-drop) (omega arith))
       ∙ ap (λ (q : List ℕ). q ++ vs ++ drop (n + length vs) l) (take-at p (drop n old) n is)
       ∙ ap (λ (q : List ℕ). p ++ vs ++ q) rest

@@ -58,20 +58,15 @@ unfolding endsOf
 ends-length [] = refl
 ends-length (l ∷ ls) = omega (arith, ends-length ls)
 
-two-on : (i k : ℕ) → 2 * suc i + k ≡ suc (suc (2 * i + k))
+pub two-on : (i k : ℕ) → 2 * suc i + k ≡ suc (suc (2 * i + k))
 two-on i k = omega arith
 
-pub ends-a : (ls : List Link) (i : ℕ) → getD (endsOf ls) (2 * i + 0) 0 ≡ getD ls i noLink .a
+pub ends-at : (ls : List Link) (i : ℕ)
+    → (getD (endsOf ls) (2 * i + 0) 0 ≡ getD ls i noLink .a) × (getD (endsOf ls) (2 * i + 1) 0 ≡ getD ls i noLink .b)
 unfolding endsOf
-ends-a [] i = refl
-ends-a (l ∷ ls) zero = refl
-ends-a (l ∷ ls) (suc i) = rw (two-on i 0) (ends-a ls i)
-
-pub ends-b : (ls : List Link) (i : ℕ) → getD (endsOf ls) (2 * i + 1) 0 ≡ getD ls i noLink .b
-unfolding endsOf
-ends-b [] i = refl
-ends-b (l ∷ ls) zero = refl
-ends-b (l ∷ ls) (suc i) = rw (two-on i 1) (ends-b ls i)
+ends-at [] i = (refl, refl)
+ends-at (l ∷ ls) zero = (refl, refl)
+ends-at (l ∷ ls) (suc i) = rw (two-on i 0, two-on i 1) (ends-at ls i)
 
 -- the places of the ends
 getD-map : (f : ℕ → ℕ) (l : List ℕ) (k : ℕ) → k < length l → getD (map f l) k 0 ≡ f (getD l k 0)

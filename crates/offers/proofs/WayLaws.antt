@@ -2,7 +2,7 @@
 -- ends' places is arc k. By induction along the lists, then by the parity of k.
 --
 --   WayArc us w a      direction w is arc a, its ends by their places in us
-use Prim.Native.Nat.{ℕ, zero, suc, _+_, _-_, _*_, _/_, _%_, _≤_, _<_}
+use Prim.Native.Nat.{ℕ, zero, suc, _+_, _-_, _*_, _/_, _%_, _<_}
 use mathlib.Core.Path.{_≡_, refl, sym, _∙_, ap}
 use mathlib.Core.Bool.{Bool, true, false}
 use mathlib.Core.List.{List, [], _∷_}
@@ -17,11 +17,12 @@ use Rattle.rules.specs.Offers.{Arc}
 use Rattle.rules.specs.Network.{linksOf, linkAt, asesOf, aToB, bToA, arcsFrom, arcsOf}
 use Rattle.rules.proofs.Tests.{tests, by-cond}
 use Rattle.rules.proofs.ArcLaws.{arcs-length, arcs-ends, arcs-rank}
+use Rattle.network.specs.Promises.{HasLink}
 use Rattle.offers.specs.declared.Way.{Way}
 use Rattle.offers.specs.Ways.{endsOf, placeIn, noArc, noLink, arcAt, partner, wayAt}
 use Rattle.offers.specs.Steps.{OverWay, Placed}
 use Rattle.offers.specs.Placing.{kindOver}
-use Rattle.offers.proofs.PlaceLaws.{at-in, place-in, ends-a, ends-b, places-at}
+use Rattle.offers.proofs.PlaceLaws.{at-in, place-in, two-on, ends-at, places-at}
 
 -- Links by index ---------------------------------------------------------------------------------------------------------
 
@@ -33,7 +34,7 @@ link-next a b r ws i =
     let e : 3 * suc i ≡ suc (suc (suc (3 * i))) = omega arith in
     rw (three-on i 1, three-on i 2, e)
 
-pub links-at : (ws : List ℕ) (i : ℕ) → 3 * i + 3 ≤ length ws → getD (linksOf ws) i noLink ≡ linkAt ws i
+pub links-at : (ws : List ℕ) (i : ℕ) → HasLink ws i → getD (linksOf ws) i noLink ≡ linkAt ws i
 unfolding linksOf
 links-at [] i h = absurd (omega arith)
 links-at (a ∷ []) i h = absurd (omega arith)
@@ -43,23 +44,14 @@ links-at (a ∷ b ∷ r ∷ ws) (suc i) h = links-at ws i (omega arith) ∙ sym 
 
 -- Arcs by index ------------------------------------------------------------------------------------------------------------
 
-pub arcs-a : (j : ℕ) (ls : List Link) (i : ℕ) → i < length ls → getD (arcsFrom j ls) (2 * i + 0) noArc ≡ aToB (j + i) (getD ls i noLink)
+arcs-at : (j : ℕ) (ls : List Link) (i : ℕ) → i < length ls
+    → (getD (arcsFrom j ls) (2 * i + 0) noArc ≡ aToB (j + i) (getD ls i noLink)) × (getD (arcsFrom j ls) (2 * i + 1) noArc ≡ bToA (j + i) (getD ls i noLink))
 unfolding arcsFrom
-arcs-a j [] i h = absurd (omega arith)
-arcs-a j (l ∷ ls) zero h = (let e : j ≡ j + 0 = omega arith in ap (λ (n : ℕ). aToB n l) e)
-arcs-a j (l ∷ ls) (suc i) h =
-    let e : 2 * suc i + 0 ≡ suc (suc (2 * i + 0)) = omega arith in
-    let f : suc j + i ≡ j + suc i = omega arith in
-    rw e (arcs-a (suc j) ls i (omega arith) ∙ ap (λ (n : ℕ). aToB n (getD ls i noLink)) f)
-
-pub arcs-b : (j : ℕ) (ls : List Link) (i : ℕ) → i < length ls → getD (arcsFrom j ls) (2 * i + 1) noArc ≡ bToA (j + i) (getD ls i noLink)
-unfolding arcsFrom
-arcs-b j [] i h = absurd (omega arith)
-arcs-b j (l ∷ ls) zero h = (let e : j ≡ j + 0 = omega arith in ap (λ (n : ℕ). bToA n l) e)
-arcs-b j (l ∷ ls) (suc i) h =
-    let e : 2 * suc i + 1 ≡ suc (suc (2 * i + 1)) = omega arith in
-    let f : suc j + i ≡ j + suc i = omega arith in
-    rw e (arcs-b (suc j) ls i (omega arith) ∙ ap (λ (n : ℕ). bToA n (getD ls i noLink)) f)
+arcs-at j [] i h = absurd (omega arith)
+arcs-at j (l ∷ ls) zero h = (let e : j ≡ j + 0 = omega arith in (ap (λ (n : ℕ). aToB n l) e, ap (λ (n : ℕ). bToA n l) e))
+arcs-at j (l ∷ ls) (suc i) h =
+    let f : j + suc i ≡ suc j + i = omega arith in
+    rw (two-on i 0, two-on i 1, f) (arcs-at (suc j) ls i (omega arith))
 
 -- k is 2i or 2i + 1
 data Parity (k : ℕ) : Type 0 where
@@ -84,13 +76,13 @@ module _ (ls : List Link) (k : ℕ) (h : k < 2 * length ls) where
   unfolding link
   arc-even e =
       let z : 0 + k / 2 ≡ k / 2 = omega arith in
-      ap (λ (n : ℕ). getD (arcsOf ls) n noArc) e ∙ arcs-a 0 ls (k / 2) (omega arith) ∙ ap (λ (n : ℕ). aToB n link) z
+      ap (λ (n : ℕ). getD (arcsOf ls) n noArc) e ∙ arcs-at 0 ls (k / 2) (omega arith) .0 ∙ ap (λ (n : ℕ). aToB n link) z
 
   arc-odd : k ≡ 2 * (k / 2) + 1 → arcAt ls k ≡ bToA (k / 2) link
   unfolding link
   arc-odd e =
       let z : 0 + k / 2 ≡ k / 2 = omega arith in
-      ap (λ (n : ℕ). getD (arcsOf ls) n noArc) e ∙ arcs-b 0 ls (k / 2) (omega arith) ∙ ap (λ (n : ℕ). bToA n link) z
+      ap (λ (n : ℕ). getD (arcsOf ls) n noArc) e ∙ arcs-at 0 ls (k / 2) (omega arith) .1 ∙ ap (λ (n : ℕ). bToA n link) z
 
   pub arc-direction : arcAt ls k .direction ≡ k
   unfolding aToB bToA
@@ -107,7 +99,7 @@ pub partner-within : (k : ℕ) → partner k < 2 * (k / 2) + 2
 partner-within k = by-cond (λ j. j < 2 * (k / 2) + 2) (eqb (k % 2) 0) (k + 1) (k - 1) (λ e. omega tests) (λ e. omega tests)
 
 -- direction k by its link's words
-pub way-words : (ws ps : List ℕ) (k : ℕ) → 3 * (k / 2) + 3 ≤ length ws
+pub way-words : (ws ps : List ℕ) (k : ℕ) → HasLink ws (k / 2)
     → wayAt (linksOf ws) ps k ≡ record { hearer = getD ps (partner k) 0; neighbour = getD ps k 0; kind = kindOver (linkAt ws (k / 2)) k; cost = 1 }
 way-words ws ps k h = rw (links-at ws (k / 2) h)
 
@@ -133,14 +125,14 @@ module _ (ls : List Link) (ps : List ℕ) (placed : Placed ls ps) (k : ℕ) (h :
       go : Parity k → (wayAt ls ps k .hearer ≡ placeIn (asesOf ls) (arcAt ls k .hearer)) × (wayAt ls ps k .neighbour ≡ placeIn (asesOf ls) (arcAt ls k .neighbour))
           × (arcAt ls k .kind ≡ wayAt ls ps k .kind) × (arcAt ls k .cost ≡ 1)
       go (even e t) =
-          let p : getD (endsOf ls) k 0 ≡ getD ls (k / 2) noLink .a = ap (λ (n : ℕ). getD (endsOf ls) n 0) e ∙ ends-a ls (k / 2) in
+          let p : getD (endsOf ls) k 0 ≡ getD ls (k / 2) noLink .a = ap (λ (n : ℕ). getD (endsOf ls) n 0) e ∙ ends-at ls (k / 2) .0 in
           let f : k + 1 ≡ 2 * (k / 2) + 1 = omega arith in
-          let q : getD (endsOf ls) (k + 1) 0 ≡ getD ls (k / 2) noLink .b = ap (λ (n : ℕ). getD (endsOf ls) n 0) f ∙ ends-b ls (k / 2) in
+          let q : getD (endsOf ls) (k + 1) 0 ≡ getD ls (k / 2) noLink .b = ap (λ (n : ℕ). getD (endsOf ls) n 0) f ∙ ends-at ls (k / 2) .1 in
           rw (arc-even ls k h e, t) (place-of (k + 1) _ (omega arith) q, place-of k _ h p, refl, refl)
       go (odd e t) =
-          let p : getD (endsOf ls) k 0 ≡ getD ls (k / 2) noLink .b = ap (λ (n : ℕ). getD (endsOf ls) n 0) e ∙ ends-b ls (k / 2) in
+          let p : getD (endsOf ls) k 0 ≡ getD ls (k / 2) noLink .b = ap (λ (n : ℕ). getD (endsOf ls) n 0) e ∙ ends-at ls (k / 2) .1 in
           let f : k - 1 ≡ 2 * (k / 2) + 0 = omega arith in
-          let q : getD (endsOf ls) (k - 1) 0 ≡ getD ls (k / 2) noLink .a = ap (λ (n : ℕ). getD (endsOf ls) n 0) f ∙ ends-a ls (k / 2) in
+          let q : getD (endsOf ls) (k - 1) 0 ≡ getD ls (k / 2) noLink .a = ap (λ (n : ℕ). getD (endsOf ls) n 0) f ∙ ends-at ls (k / 2) .0 in
           rw (arc-odd ls k h e, t) (place-of (k - 1) _ (omega arith) q, place-of k _ h p, refl, refl)
 
   pub way-arc : WayArc (asesOf ls) (wayAt ls ps k) (arcAt ls k)

@@ -14,8 +14,8 @@ use lib.ListN.{length, take, drop, set}
 use Rattle.rules.specs.declared.Link.{Link}
 use Rattle.rules.specs.Pairs.{kindFromA, kindFromB}
 use Rattle.rules.specs.Lists.{In}
-use Rattle.rules.specs.Network.{linksOf, asesOf}
 use Rattle.rules.specs.Ascending.{Ascending}
+use Rattle.rules.specs.Network.{linksOf, asesOf}
 use Rattle.offers.specs.Ways.{placeIn, placesOf}
 
 abbrev pub kindOver : Link → ℕ → ℕ

@@ -4,6 +4,7 @@ ghost use mathlib.Core.Path.{_≡_};
 ghost use lib.ListN.{length};
 ghost use Rattle.rules.specs.Offers.{better};
 ghost use Rattle.rules.specs.Network.{linksOf};
+ghost use Rattle.network.specs.Promises.{HasLink};
 ghost use Rattle.offers.specs.Lines.{numberAt, pairAt, nextAt, putLine};
 ghost use Rattle.offers.specs.Ways.{wayAt};
 ghost use Rattle.offers.specs.Placing.{Placing, withPlaces};
@@ -102,7 +103,7 @@ pub fn place_ends(words: &[u32], list: &[u32], n: usize, places: &mut [u32])
 
 // Direction k: 2i from a to b of link i, 2i + 1 from b to a.
 pub fn way_at(words: &[u32], places: &[u32], k: usize) -> Way
-    requires { ⌜ (3 * (k / 2) + 3 ≤ length (now words)) × (2 * (k / 2) + 2 ≤ length (now places)) ⌝ }
+    requires { ⌜ HasLink (now words) (k / 2) × (2 * (k / 2) + 2 ≤ length (now places)) ⌝ }
     ensures { λ r. ⌜ r ≡ wayAt (linksOf (now (words .entry))) (now (places .entry)) k ⌝ }
 {
     let link = network::link_at(words, k / 2);

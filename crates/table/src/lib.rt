@@ -1,1 +1,67 @@
-// The stable table for one destination.
+// The stable table for one destination: one table, the only one in which every line is the best offer.
+ghost use Prim.Native.Nat.{_*_, _≤_};
+ghost use mathlib.Core.Path.{_≡_};
+ghost use lib.ListN.{length, replicate};
+ghost use Rattle.rules.specs.Network.{linksOf};
+ghost use Rattle.rules.specs.Checks.{baseLimits};
+ghost use Rattle.table.specs.Entries.{Filled, Tabled};
+ghost use Rattle.table.specs.Steps.{Filling, Lined};
+use rules::Checked;
+use rules::Verdict;
+
+mod hops;
+mod look;
+mod phases;
+mod start;
+
+// Types and lengths of an accepted network's lines. The places of the links' ends are left in the room.
+fn settle_lines(
+    words: &[u32],
+    destination: u32,
+    ases: &[u32],
+    n: usize,
+    table: &mut [u32],
+    room: &mut [u32],
+)
+    requires { ⌜ Filling (now words) destination (now ases) n (length (now table)) (length (now room)) ⌝ }
+    ensures { λ _. ⌜ Lined (linksOf (now (words .entry))) destination (now (ases .entry)) n (now (table .entry)) (now (table .exit)) (now (room .exit)) ⌝ }
+{
+    start::begin(table, ases, n, destination);
+    offers::place_ends(words, ases, n, room);
+    let cap = (n - 1) as u32;
+    phases::settle(words, room, table, cap);
+}
+
+// The whole table of an accepted network. The best offers are found in a table that is lent for them, and the room is cleared.
+fn fill(
+    words: &[u32],
+    destination: u32,
+    ases: &[u32],
+    n: usize,
+    table: &mut [u32],
+    room: &mut [u32],
+    best: &mut [u32],
+)
+    requires { ⌜ Filling (now words) destination (now ases) n (length (now table)) (length (now room)) × (4 * n ≤ length (now best)) ⌝ }
+    ensures { λ _. ⌜ Filled (linksOf (now (words .entry))) destination (now (table .entry)) (now (table .exit)) × (now (room .exit) ≡ replicate (length (now (room .entry))) 0) ⌝ }
+{
+    settle_lines(words, destination, ases, n, table, room);
+    offers::elect_links(words, room, table, best, n);
+    hops::take_hops(table, best, n, destination);
+    network::clear(room);
+}
+
+// The stable table to the destination, four words per AS, for a list of link words, with working room; or the first refusal of 1 to 8.
+// The lists of ASes and of best offers hold 512 ASes.
+pub fn stable_table(words: &[u32], destination: u32, table: &mut [u32], room: &mut [u32]) -> Verdict
+    ensures { λ r. ⌜ Tabled baseLimits (now (words .entry)) destination (now (table .entry)) (now (room .entry)) r (now (table .exit)) (now (room .exit)) ⌝ }
+{
+    let mut ases = [0u32; 512];
+    let looked = look::look(words, destination, &mut ases, table.len(), room.len());
+    let Checked::Accepted(n) = looked else {
+        return look::refused(looked);
+    };
+    let mut best = [0u32; 2048];
+    fill(words, destination, &ases, n, table, room, &mut best);
+    Verdict::Passes
+}

@@ -1,8 +1,8 @@
--- What the code compares is the offer over the arc (`consider-is`), and it returns the winner.
+-- What the code compares is the offer over the arc (`considered`), and it returns the winner.
 use mathlib.Core.Path.{sym, _∙_, ap}
 use Rattle.rules.specs.declared.TypeLength.{TypeLength}
 use Rattle.offers.specs.Steps.{offerOf}
-use Rattle.offers.proofs.ConsiderLaws.{consider-is, choose-new, choose-old}
+use Rattle.offers.proofs.ConsiderLaws.{considered, choose-new, choose-old}
 use borrow.Author.Needs.{needs}
 use Rattle.offers.proofs.consider.Statement.{statement}
 use Rattle.offers.proofs.consider.Tie as tie
@@ -18,15 +18,15 @@ wins-requires c κs = search needs
 
 returns : tie.Need-returns
 returns c =
-    let s = c .before .before .before .before in
-    let is = c .before .before .offer-of .ensures ∙ ap (λ (p : TypeLength). offerOf p (s .args .from)) (c .before .before .before .extended .ensures) in
-    record { chosen = λ a over. sym (choose-new _ _ (sym (c .before .wins .ensures) ∙ c .if1 .taken)) ∙ consider-is (s .args .way) (s .args .from) a over (s .args .told) _ is (s .args .best) (s .pre .1) }
+    let e = c .before .before in
+    let is = e .offer-of .ensures ∙ ap (λ (p : TypeLength). offerOf p (e .before .before .args .from)) (e .before .extended .ensures) in
+    considered (e .before .before .pre .1) is (choose-new _ _ (sym (c .before .wins .ensures) ∙ c .if1 .taken))
 
 returns-2 : tie.Need-returns-2
 returns-2 c =
-    let s = c .before .before .before .before in
-    let is = c .before .before .offer-of .ensures ∙ ap (λ (p : TypeLength). offerOf p (s .args .from)) (c .before .before .before .extended .ensures) in
-    record { chosen = λ a over. sym (choose-old _ _ (sym (c .before .wins .ensures) ∙ c .if1 .left)) ∙ consider-is (s .args .way) (s .args .from) a over (s .args .told) _ is (s .args .best) (s .pre .1) }
+    let e = c .before .before in
+    let is = e .offer-of .ensures ∙ ap (λ (p : TypeLength). offerOf p (e .before .before .args .from)) (e .before .extended .ensures) in
+    considered (e .before .before .pre .1) is (choose-old _ _ (sym (c .before .wins .ensures) ∙ c .if1 .left))
 
 pub consider-spec : {M : Type 1} → statement M
 consider-spec =

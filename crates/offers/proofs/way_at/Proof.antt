@@ -27,7 +27,8 @@ returns c =
     let p = c .before .before in
     let l = p .before .before in
     let s = l .before .before .before in
-    rw (way-words (s .args .words .now) (s .args .places .now) (s .args .k) (s .pre .0), p .place-at .ensures, p .before .partner .ensures, c .before .place-at2 .ensures, c .kind-over .ensures, l .link-at .ensures)
+    let is = way-words (s .args .words .now) (s .args .places .now) (s .args .k) (s .pre .0) in
+    rw (is, p .place-at .ensures, p .before .partner .ensures, c .before .place-at2 .ensures, c .kind-over .ensures, l .link-at .ensures)
 
 pub way-at-spec : {M : Type 1} → statement M
 way-at-spec =

@@ -1,0 +1,9 @@
+pub mod LineLaws
+pub mod StepLaws
+pub mod WordLaws
+pub mod LookLaws
+pub mod CloseLaws
+pub mod PhaseLaws
+pub mod NearLaws
+pub mod WholeLaws
+pub mod FillLaws

@@ -1,0 +1,90 @@
+-- What the steps of the stable table ask and say: it begins, pairs settle phase by phase, and next hops are taken over.
+--
+--   fresh d u          u's pair before the first phase: the destination's origin, every other AS unreachable
+--   Begun d us n t u   table u is t with the fresh lines of the first n ASes of us in its first entries
+--   hopOf d t b i      the next hop of entry i: its own at the destination d, and else that of table b
+--   Hopped d b n t u   table u is t with those next hops in its first n entries
+--   checkedOf n v      a verdict with the number of ASes in place of its pass
+--   Sized, Looked      what the look at sizes asks, and what the look at the whole input says
+--   Filling            what the work on an accepted input asks
+--   Lined              what the phases leave in the table and the room
+use Prim.Native.Nat.{ℕ, _-_, _*_, _≤_, _<_}
+use mathlib.Core.Path.{_≡_}
+use mathlib.Core.Bool.{cond}
+use mathlib.Core.List.{List}
+use lib.Dec.{eqb}
+use lib.ListN.{length, getD, take}
+use Rattle.rules.specs.declared.TypeLength.{TypeLength}
+use Rattle.rules.specs.declared.Link.{Link}
+use Rattle.rules.specs.declared.Limits.{Limits}
+use Rattle.rules.specs.declared.Checked.{Checked}
+use Rattle.rules.specs.declared.Checked.the-variants as checked
+use Rattle.rules.specs.declared.Verdict.{Verdict}
+use Rattle.rules.specs.declared.Verdict.the-variants.{Passes, Refused}
+use Rattle.rules.specs.Pairs.{originOf, unreachableOf}
+use Rattle.rules.specs.Lists.{In}
+use Rattle.rules.specs.Network.{linksOf, asesOf}
+use Rattle.rules.specs.Checks.{roomNeed}
+use Rattle.rules.specs.Entry.{linksFault}
+use Rattle.rules.specs.Ascending.{Ascending}
+use Rattle.offers.specs.Lines.{numberAt, nextAt, pairAt}
+use Rattle.offers.specs.Steps.{Placed}
+use Rattle.table.specs.Entries.{tableFault}
+use Rattle.table.specs.Phases.{Phased}
+
+abbrev pub fresh : ℕ → ℕ → TypeLength
+fresh d u = cond (eqb u d) originOf unreachableOf
+
+pub record Begun (d : ℕ) (us : List ℕ) (n : ℕ) (t u : List ℕ) : Type 0 where
+  pub long : length u ≡ length t
+  pub number : (i : ℕ) → i < n → numberAt u i ≡ getD us i 0
+  pub pair : (i : ℕ) → i < n → pairAt u i ≡ fresh d (getD us i 0)
+  pub next : (i : ℕ) → i < n → nextAt u i ≡ getD us i 0
+  pub rest : (w : ℕ) → 4 * n ≤ w → getD u w 0 ≡ getD t w 0
+
+abbrev pub hopOf : ℕ → List ℕ → List ℕ → ℕ → ℕ
+hopOf d t b i = cond (eqb (numberAt t i) d) (nextAt t i) (nextAt b i)
+
+pub record Hopped (d : ℕ) (b : List ℕ) (n : ℕ) (t u : List ℕ) : Type 0 where
+  pub long : length u ≡ length t
+  pub number : (i : ℕ) → numberAt u i ≡ numberAt t i
+  pub pair : (i : ℕ) → pairAt u i ≡ pairAt t i
+  pub next : (i : ℕ) → i < n → nextAt u i ≡ hopOf d t b i
+  pub rest : (w : ℕ) → 4 * n ≤ w → getD u w 0 ≡ getD t w 0
+
+-- The look at the input ----------------------------------------------------------------------------------------------------
+
+abbrev pub checkedOf : ℕ → Verdict → Checked
+checkedOf n Passes = checked.Accepted n
+checkedOf n (Refused r) = checked.Refused r
+
+-- so many links, whose ASes are the first n words of list, fit a word
+pub record Sized (links : ℕ) (list : List ℕ) (n : ℕ) : Type 0 where
+  pub within : n ≤ length list
+  pub ascending : Ascending (take n list)
+  pub few-ases : n < 4294967296
+  pub few-links : links < 4294967296
+
+-- its reply r to link words ws, with room for a table and working room of so many words; list is left with the ASes
+pub record Looked (limits : Limits) (ws : List ℕ) (d : ℕ) (list : List ℕ) (table room : ℕ) (r : Checked) : Type 0 where
+  pub replies : r ≡ checkedOf (length (asesOf (linksOf ws))) (tableFault limits ws d table room)
+  pub listed : linksFault limits ws ≡ Passes → take (length (asesOf (linksOf ws))) list ≡ asesOf (linksOf ws)
+
+-- The work on an accepted input --------------------------------------------------------------------------------------------
+
+-- link words ws with n ASes, which are the first words of list, the destination d among them, and room enough
+pub record Filling (ws : List ℕ) (d : ℕ) (list : List ℕ) (n table room : ℕ) : Type 0 where
+  pub whole : length ws ≡ 3 * length (linksOf ws)
+  pub listed : take n list ≡ asesOf (linksOf ws)
+  pub count : n ≡ length (asesOf (linksOf ws))
+  pub few : n < 4294967296
+  pub member : In d (asesOf (linksOf ws))
+  pub entries : 4 * n ≤ table
+  pub words : roomNeed (length (linksOf ws)) n ≤ room
+
+-- table t is old after the phases, and the first words of ps say where the links' ends stand
+pub record Lined (ls : List Link) (d : ℕ) (list : List ℕ) (n : ℕ) (old t ps : List ℕ) : Type 0 where
+  pub first : List ℕ
+  pub begun : Begun d list n old first
+  pub placed : Placed ls ps
+  pub phased : Phased ls ps (n - 1) first t
