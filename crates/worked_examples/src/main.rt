@@ -1,0 +1,68 @@
+// P1 to P10 of document 01 run on the code; what it prints is held to the document's sentences in the file stdout.
+use libc::STDOUT_FILENO;
+use rules::Verdict;
+
+// Network A: 10|20|-1, 20|30|-1, 30|40|-1, 10|40|0, 10|50|-1.
+const NETWORK_A: [u32; 15] = [10, 20, 1, 20, 30, 1, 30, 40, 1, 10, 40, 0, 10, 50, 1];
+
+// 1|2|0, 2|3|0.
+const TWO_PEERINGS: [u32; 6] = [1, 2, 0, 2, 3, 0];
+
+fn say(word: &[u8]) {
+    io::write_all(STDOUT_FILENO, word);
+}
+
+fn say_number(number: u32) {
+    say(b" ");
+    io::print_decimal(STDOUT_FILENO, number as u64);
+}
+
+// The entry that starts at a word, if it is whole and its number is not 0.
+fn say_line(table: &[u32], at: usize) {
+    if at < table.len() {
+        if 3 < table.len() - at {
+            if table[at] != 0 {
+                say(b" ");
+                say_number(table[at]);
+                say_number(table[at + 1]);
+                say_number(table[at + 2]);
+                say_number(table[at + 3]);
+            }
+        }
+    }
+}
+
+// The entries of a table of at most five.
+fn say_lines(table: &[u32]) {
+    say_line(table, 0);
+    say_line(table, 4);
+    say_line(table, 8);
+    say_line(table, 12);
+    say_line(table, 16);
+}
+
+// The stable table of the links to d.
+fn say_table(words: &[u32], d: u32) {
+    let mut table = [0u32; 32];
+    let mut room = [0u32; 128];
+    let reply = table::stable_table(words, d, &mut table, &mut room);
+    match reply {
+        Verdict::Passes => say_lines(&table),
+        Verdict::Refused(why) => say_number(why.number()),
+    }
+    say(b"\n");
+}
+
+fn main() {
+    say(b"P1");
+    say_table(&NETWORK_A, 40);
+    say(b"P2");
+    say_table(&NETWORK_A, 50);
+    say(b"P3");
+    say_table(&TWO_PEERINGS, 3);
+    say(b"P4");
+    say_number(rules::extend_type(1, 3));
+    say_number(rules::extend_type(2, 2));
+    say_number(rules::extend_type(3, 2));
+    say(b"\n");
+}
