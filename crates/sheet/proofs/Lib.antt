@@ -1,1 +1,13 @@
+-- Laws that belong to no one function.
+pub mod VerdictLaws
+pub mod StoreLaws
+pub mod NumberLaws
+pub mod FormLaws
+pub mod EntryLaws
+pub mod StandingLaws
+pub mod RunLaws
+pub mod ReadLaws
+pub mod WriteLaws
+pub mod RoundTrips
+pub mod Promises
 pub mod WorkedExamples

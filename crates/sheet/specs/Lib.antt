@@ -1,3 +1,6 @@
 pub mod Form
+pub mod Places
+pub mod Sizes
 pub mod Entries
+pub mod Writing
 pub mod Worked
