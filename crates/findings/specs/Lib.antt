@@ -1,1 +1,5 @@
 pub mod Entries
+pub mod Rooms
+pub mod Tellings
+pub mod Peelings
+pub mod Joinings

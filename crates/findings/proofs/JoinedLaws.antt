@@ -1,0 +1,47 @@
+-- The test `joined` is 'every two different tops are peers', read off test by test.
+use mathlib.Core.Path.{_≡_, refl, _∙_, ap}
+use mathlib.Core.Logic.{_↔_, inl, inr, ⊎-elim, _≢_}
+use mathlib.Core.Bool.{Bool, true, false, not, _&&_, _||_}
+use mathlib.Core.List.{List, [], _∷_}
+use Prim.Native.Nat.{ℕ}
+use lib.Dec.{eqb}
+use native.Mathlib.Omega.{arith}
+use borrow.Author.Tests.{eqb-true, eqb-false, ne-eqb}
+use Rattle.rules.specs.declared.Link.{Link}
+use Rattle.rules.specs.Lists.{In, allOf}
+use Rattle.rules.specs.Network.{asesOf}
+use Rattle.rules.specs.Findings.{isTop, arePeers, Joined, joined}
+use Rattle.findings.specs.Joinings.{pairJoined}
+use Rattle.rules.proofs.Tests.{and-left, and-right, and-yes}
+
+module _ {A : Type 0} (f : A → Bool) where
+  pub allOf-each : (l : List A) → allOf f l ≡ true → (x : A) → In x l → f x ≡ true
+  allOf-each (y ∷ l) e x (inl q) = ap f q ∙ and-left (f y) (allOf f l) e
+  allOf-each (y ∷ l) e x (inr m) = allOf-each l (and-right (f y) (allOf f l) e) x m
+
+  pub allOf-true : (l : List A) → ((x : A) → In x l → f x ≡ true) → allOf f l ≡ true
+  allOf-true [] h = refl
+  allOf-true (y ∷ l) h = and-yes (f y) (allOf f l) (h y (inl refl)) (allOf-true l (λ x m. h x (inr m)))
+
+pair-yes : (s t : Bool) (u v : ℕ) (p : Bool) → (not (s && t) || eqb u v || p) ≡ true → s ≡ true → t ≡ true → u ≢ v → p ≡ true
+pair-yes s t u v p e f g ne = cc (ne-eqb u v ne)
+
+pair-from : (s t : Bool) (u v : ℕ) (q p : Bool) → eqb u v ≡ q → (s ≡ true → t ≡ true → u ≢ v → p ≡ true) → (not (s && t) || q || p) ≡ true
+pair-from true true u v true p d h = refl
+pair-from true true u v false p d h = h refl refl (eqb-false u v d)
+pair-from true false u v q p d h = refl
+pair-from false t u v q p d h = refl
+
+pub joined-is : (ls : List Link) → (joined ls ≡ true) ↔ Joined ls
+unfolding joined
+joined-is ls = (to, from)
+  where
+    to : allOf (λ u. allOf (pairJoined ls u) (asesOf ls)) (asesOf ls) ≡ true → Joined ls
+    to e u v m n s t ne =
+        pair-yes (isTop ls u) (isTop ls v) u v (arePeers ls u v)
+        (allOf-each (pairJoined ls u) (asesOf ls) (allOf-each (λ (u : ℕ). allOf (pairJoined ls u) (asesOf ls)) (asesOf ls) e u m) v n) s t ne
+
+    from : Joined ls → allOf (λ u. allOf (pairJoined ls u) (asesOf ls)) (asesOf ls) ≡ true
+    from h =
+        allOf-true (λ (u : ℕ). allOf (pairJoined ls u) (asesOf ls)) (asesOf ls)
+        (λ u m. allOf-true (pairJoined ls u) (asesOf ls) (λ v n. pair-from (isTop ls u) (isTop ls v) u v (eqb u v) (arePeers ls u v) refl (h u v m n)))

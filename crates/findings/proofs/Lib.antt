@@ -1,0 +1,11 @@
+pub mod Chains
+pub mod RingLaws
+pub mod JoinedLaws
+pub mod TellerLaws
+pub mod RoomLaws
+pub mod TellLaws
+pub mod PeelLaws
+pub mod RoundLaws
+pub mod TopLaws
+pub mod MeetLaws
+pub mod EntryLaws

@@ -1,0 +1,56 @@
+-- Each way out is what the two tests on it said.
+use mathlib.Core.Path.{_∙_, refl, sym}
+use mathlib.Core.Bool.{false≢true}
+use borrow.Author.Needs.{needs}
+use Rattle.findings.proofs.ring.peel_at.Statement.{statement}
+use Rattle.findings.proofs.ring.peel_at.Tie as tie
+
+add-left : tie.Need-add-left
+add-left c = search needs
+
+is-set-requires : tie.Need-is-set-requires
+is-set-requires c κs = search needs
+
+add-is-set : tie.Need-add-is-set
+add-is-set c = search needs
+
+is-set-requires-2 : tie.Need-is-set-requires-2
+is-set-requires-2 c κs = search needs
+
+same-length : tie.Need-same-length
+same-length c = search needs
+
+returns : tie.Need-returns
+returns c = (λ e. sym (c .before .is-set2 .ensures) ∙ c .if2 .taken, refl)
+
+put-requires : tie.Need-put-requires
+put-requires c κs = search needs
+
+same-length-2 : tie.Need-same-length-2
+same-length-2 c = search needs
+
+returns-2 : tie.Need-returns-2
+returns-2 c =
+    (sym (c .before .before .before .before .before .before .before .before .before .is-set .ensures) ∙ c .before .before .before .before .before .before .before .before .if1 .taken, sym (c .before .before .before .before .before .is-set2 .ensures) ∙ c .before .before .before .before .if2 .left, c .before .before .put .ensures)
+
+same-length-3 : tie.Need-same-length-3
+same-length-3 c = search needs
+
+returns-3 : tie.Need-returns-3
+returns-3 c = (λ e. absurd (false≢true (sym (c .if1 .left) ∙ c .before .is-set .ensures ∙ e)), refl)
+
+pub peel-at-spec : {M : Type 1} → statement M
+peel-at-spec =
+    tie.close
+    (tie.spec
+    add-left
+    is-set-requires
+    add-is-set
+    is-set-requires-2
+    same-length
+    returns
+    put-requires
+    same-length-2
+    returns-2
+    same-length-3
+    returns-3)

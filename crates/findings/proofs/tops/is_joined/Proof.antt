@@ -1,0 +1,65 @@
+-- Every AS before the place reached meets all tops.
+use Prim.Native.Nat.{ℕ, _*_, _-_, _≤_, _<_}
+use mathlib.Core.Path.{_≡_, _∙_, sym}
+use mathlib.Core.Bool.{true}
+use native.Mathlib.Omega.{arith}
+use borrow.Author.Count.{below-none, below-more}
+use borrow.Author.Tests.{not-true, not-false}
+use Rattle.findings.specs.Rooms.{Within}
+use Rattle.findings.proofs.RoomLaws.{within-same, within-more}
+use Rattle.findings.proofs.TopLaws.{started-kept}
+use Rattle.findings.proofs.MeetLaws.{meets, joining-yes, joining-not}
+use Rattle.findings.proofs.tops.is_joined.Statement.{statement}
+use Rattle.findings.proofs.tops.is_joined.Tie as tie
+
+abbrev Inv-loop : tie.InvT-loop
+Inv-loop words room₀ s n p₀ room p = (p ≤ n) × Within (s .chosen) (2 * s .ases) room₀ room × ((k : ℕ) → k < p → meets words k ≡ true)
+
+abbrev μ-loop : tie.MeasureT-loop
+μ-loop words room₀ s n p₀ room p = n - p
+
+loop-holds : tie.Need-loop-holds Inv-loop μ-loop
+loop-holds c = (omega arith, within-same _ _ _, below-none _)
+
+meets-tops-requires : tie.Need-meets-tops-requires Inv-loop μ-loop
+meets-tops-requires c κs = (c .before .loop-test .taken, started-kept (c .before .before .before .before .before .pre) (c .before .before .loop .inv .1))
+
+same-length : tie.Need-same-length Inv-loop μ-loop
+same-length c = c .before .before .before .meets-tops .ensures .within .long ∙ c .before .before .before .before .before .before .loop .inv .1 .long
+
+returns : tie.Need-returns Inv-loop μ-loop
+returns c = joining-not (c .before .before .before .before .before .before .before .before .before .pre) (c .before .before .before .before .before .before .loop .inv .1) (c .before .before .before .before .before .loop-test .taken) (c .before .before .before .meets-tops .ensures) (not-true (c .before .before .before .meets-tops .result) (c .if1 .taken))
+
+add-p : tie.Need-add-p Inv-loop μ-loop
+add-p c = omega arith
+
+loop-less : tie.Need-loop-less Inv-loop μ-loop
+loop-less c = omega arith
+
+loop-again : tie.Need-loop-again Inv-loop μ-loop
+loop-again c =
+    let m = c .before .before .before .meets-tops in
+    let i = c .before .before .before .before .before .before .loop .inv in
+    (omega arith, within-more (i .1) (m .ensures .within), below-more _ _ (i .2) (sym (m .ensures .reply) ∙ not-false (m .result) (c .if1 .left)))
+
+same-length-2 : tie.Need-same-length-2 Inv-loop μ-loop
+same-length-2 c = c .before .loop .inv .1 .long
+
+returns-2 : tie.Need-returns-2 Inv-loop μ-loop
+returns-2 c = joining-yes (c .before .before .before .before .pre) (c .before .loop .inv .1) (c .loop-test .left) (c .before .loop .inv .2)
+
+pub is-joined-spec : {M : Type 1} → statement M
+is-joined-spec =
+    tie.close
+    (tie.spec
+    Inv-loop
+    μ-loop
+    loop-holds
+    meets-tops-requires
+    same-length
+    returns
+    add-p
+    loop-less
+    loop-again
+    same-length-2
+    returns-2)

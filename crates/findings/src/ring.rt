@@ -1,0 +1,94 @@
+// The customer ring: ASes that have no customer left are peeled off, pass after pass. A ring is there if and only if one is left.
+ghost use Prim.Native.Nat.{_+_, _*_, _≤_, _<_};
+ghost use mathlib.Core.Path.{_≡_};
+ghost use lib.ListN.{length};
+ghost use Rattle.rules.specs.Network.{linksOf};
+ghost use Rattle.rules.specs.Findings.{ringed};
+ghost use Rattle.findings.specs.Rooms.{Laid};
+ghost use Rattle.findings.specs.Peelings.{Sized, PeeledAt, Peeled, Round, RingsLeft, Bare, Some};
+use super::PROVIDES;
+use super::Parts;
+use super::Pass;
+use super::UP;
+use super::cells;
+use super::passes;
+
+// Takes the AS at place p away if it is left and has no customer left. Whether it did.
+fn peel_at(room: &mut [u32], parts: Parts, p: usize) -> bool
+    requires { ⌜ (p < parts .ases) × Sized parts (now room) ⌝ }
+    ensures { λ r. ⌜ PeeledAt parts p (now (room .entry)) (now (room .exit)) r ⌝ }
+{
+    let left = parts.left + p;
+    if cells::is_set(room, left) {
+        if cells::is_set(room, parts.met + p) {
+            return false;
+        }
+        cells::put(room, left, 0);
+        return true;
+    }
+    false
+}
+
+// Takes all those away. Whether there was one.
+fn peel_all(room: &mut [u32], parts: Parts) -> bool
+    requires { ⌜ Sized parts (now room) ⌝ }
+    ensures { λ r. ⌜ Peeled parts (parts .ases) (now (room .entry)) (now (room .exit)) r ⌝ }
+{
+    let n = parts.ases;
+    let mut any = false;
+    let mut p = 0;
+    while p < n {
+        let gone = peel_at(room, parts, p);
+        any = any | gone;
+        p += 1;
+    }
+    any
+}
+
+// One pass: who has a customer left is met, who is not is taken away. Whether one was.
+fn peel(words: &[u32], room: &mut [u32], parts: Parts) -> bool
+    requires { ⌜ Laid (now words) (now room) parts ⌝ }
+    ensures { λ r. ⌜ Round (now (words .entry)) parts (now (room .entry)) (now (room .exit)) r ⌝ }
+{
+    cells::fill(room, parts.met, parts.ases, 0);
+    let up = Pass {
+        relation: PROVIDES,
+        way: UP,
+        from: parts.left,
+        to: parts.met,
+    };
+    passes::tell(words, room, parts, up);
+    peel_all(room, parts)
+}
+
+// Passes until one takes none away.
+fn strip(words: &[u32], room: &mut [u32], parts: Parts)
+    requires { ⌜ Laid (now words) (now room) parts ⌝ }
+    ensures { λ _. ⌜ Bare (now (words .entry)) parts (now (room .entry)) (now (room .exit)) ⌝ }
+{
+    while peel(words, room, parts) {}
+}
+
+// Whether one of the n words from `at` on is 1.
+fn any_set(room: &[u32], at: usize, n: usize) -> bool
+    requires { ⌜ at + n ≤ length (now room) ⌝ }
+    ensures { λ r. ⌜ Some (now (room .entry)) at n r ⌝ }
+{
+    let mut k = 0;
+    while k < n {
+        if cells::is_set(room, at + k) {
+            return true;
+        }
+        k += 1;
+    }
+    false
+}
+
+// Whether there is a customer ring, from a room in which every AS is left.
+pub fn has_ring(words: &[u32], room: &mut [u32], parts: Parts) -> bool
+    requires { ⌜ Laid (now words) (now room) parts × RingsLeft (now words) parts (now room) ⌝ }
+    ensures { λ r. ⌜ r ≡ ringed (linksOf (now (words .entry))) ⌝ }
+{
+    strip(words, room, parts);
+    any_set(room, parts.left, parts.ases)
+}
