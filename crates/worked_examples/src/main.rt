@@ -1,4 +1,5 @@
 // P1 to P10 of document 01 run on the code; what it prints is held to the document's sentences in the file stdout.
+use findings::Found;
 use libc::STDOUT_FILENO;
 use rules::Verdict;
 
@@ -7,6 +8,9 @@ const NETWORK_A: [u32; 15] = [10, 20, 1, 20, 30, 1, 30, 40, 1, 10, 40, 0, 10, 50
 
 // 1|2|0, 2|3|0.
 const TWO_PEERINGS: [u32; 6] = [1, 2, 0, 2, 3, 0];
+
+// 1|2|-1, 2|3|-1, 3|1|-1.
+const RING_OF_THREE: [u32; 9] = [1, 2, 1, 2, 3, 1, 3, 1, 1];
 
 fn say(word: &[u8]) {
     io::write_all(STDOUT_FILENO, word);
@@ -53,6 +57,28 @@ fn say_table(words: &[u32], d: u32) {
     say(b"\n");
 }
 
+fn say_answer(word: &[u8], yes: bool) {
+    say(word);
+    if yes {
+        say(b" yes");
+    } else {
+        say(b" no");
+    }
+}
+
+// The two findings on the links.
+fn say_findings(words: &[u32]) {
+    let mut room = [0u32; 128];
+    match findings::find(words, &mut room) {
+        Found::Found(ring, joined) => {
+            say_answer(b" ring", ring);
+            say_answer(b" joined", joined);
+        }
+        Found::Refused(why) => say_number(why.number()),
+    }
+    say(b"\n");
+}
+
 fn main() {
     say(b"P1");
     say_table(&NETWORK_A, 40);
@@ -60,9 +86,15 @@ fn main() {
     say_table(&NETWORK_A, 50);
     say(b"P3");
     say_table(&TWO_PEERINGS, 3);
+    say(b"P3");
+    say_findings(&TWO_PEERINGS);
     say(b"P4");
     say_number(rules::extend_type(1, 3));
     say_number(rules::extend_type(2, 2));
     say_number(rules::extend_type(3, 2));
     say(b"\n");
+    say(b"P8");
+    say_findings(&NETWORK_A);
+    say(b"P9");
+    say_findings(&RING_OF_THREE);
 }
