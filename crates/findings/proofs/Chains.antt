@@ -3,13 +3,12 @@
 --
 --   Below ls u v       a link says that u is provider of v
 --   Chain ls u us v    such links lead from u over us to v
-use Prim.Native.Nat.{ℕ, zero, suc, _≤_, _<_}
+use Prim.Native.Nat.{ℕ, zero, suc, _<_}
 use mathlib.Core.Path.{_≡_, refl, sym, _∙_, ap}
-use mathlib.Core.Logic.{_⊎_, inl, inr, ⊎-elim, _≢_}
-use mathlib.Core.Bool.{Bool, true, _&&_, _||_}
+use mathlib.Core.Logic.{_⊎_, inl, inr, ⊎-elim}
+use mathlib.Core.Bool.{true, _&&_}
 use mathlib.Core.List.{List, [], _∷_, map}
 use native.Mathlib.Omega.{arith}
-use native.Mathlib.Decide.{ℕ-discrete}
 use lib.Dec.{eqb}
 use lib.ListN.{length, length-map}
 use borrow.Author.Tests.{eq-eqb, eqb-true}
@@ -17,51 +16,48 @@ use Rattle.rules.specs.declared.Link.{Link}
 use Rattle.rules.specs.Lists.{In, Without, Distinct, anyOf}
 use Rattle.rules.specs.Findings.{provides, reaches, Ring}
 use Rattle.rules.proofs.Tests.{and-left, and-right, and-yes}
-use Rattle.rules.proofs.ListLaws.{anyOf-true, anyOf-one}
+use Rattle.rules.proofs.ListLaws.{anyOf-true, anyOf-one, in-or-not}
 use Rattle.rules.proofs.Pigeon.{pigeon}
 
 -- Lists -------------------------------------------------------------------------------------------------------------------
 
-pub in-map : {A B : Type 0} (f : A → B) (l : List A) (x : A) → In x l → In (f x) (map f l)
+in-map : {A B : Type 0} (f : A → B) (l : List A) (x : A) → In x l → In (f x) (map f l)
 in-map f (y ∷ l) x (inl e) = inl (ap f e)
 in-map f (y ∷ l) x (inr m) = inr (in-map f l x m)
 
--- x stands in l, or not
-pub in-or-not : (x : ℕ) (l : List ℕ) → In x l ⊎ Without x l
-in-or-not x [] = inr tt
-in-or-not x (y ∷ l) = at (ℕ-discrete x y) (in-or-not x l)
-  where
-    at : Dec (x ≡ y) → In x l ⊎ Without x l → In x (y ∷ l) ⊎ Without x (y ∷ l)
-    at (yes e) r = inl (inl e)
-    at (no ne) (inl m) = inl (inr m)
-    at (no ne) (inr w) = inr (ne, w)
+not-in : {A : Type 0} (x : A) (l : List A) → (In x l → ⊥) → Without x l
+not-in x [] h = tt
+not-in x (y ∷ l) h = (λ e. h (inl e), not-in x l (λ m. h (inr m)))
 
 -- Links -------------------------------------------------------------------------------------------------------------------
 
 abbrev pub Below : List Link → ℕ → ℕ → Type 0
 Below ls u v = anyOf (provides u v) ls ≡ true
 
-pub provides-ends : (u v : ℕ) (l : Link) → provides u v l ≡ true → (l .relation ≡ 1) × (l .a ≡ u) × (l .b ≡ v)
+provides-ends : (u v : ℕ) (l : Link) → provides u v l ≡ true → (l .relation ≡ 1) × (l .a ≡ u) × (l .b ≡ v)
 unfolding provides
 provides-ends u v l e =
-    let f = and-left (eqb (l .relation) 1 && eqb (l .a) u) (eqb (l .b) v) e in
-    (eqb-true _ _ (and-left (eqb (l .relation) 1) (eqb (l .a) u) f), eqb-true _ _ (and-right (eqb (l .relation) 1) (eqb (l .a) u) f), eqb-true _ _ (and-right (eqb (l .relation) 1 && eqb (l .a) u) (eqb (l .b) v) e))
+    let f = and-left (eqb (l .relation) 1 && eqb (l .a) u) (eqb (l .b) v) e in (
+      eqb-true _ _ (and-left (eqb (l .relation) 1) (eqb (l .a) u) f),
+      eqb-true _ _ (and-right (eqb (l .relation) 1) (eqb (l .a) u) f),
+      eqb-true _ _ (and-right (eqb (l .relation) 1 && eqb (l .a) u) (eqb (l .b) v) e),
+    )
 
-pub provides-yes : (u v : ℕ) (l : Link) → l .relation ≡ 1 → l .a ≡ u → l .b ≡ v → provides u v l ≡ true
+provides-yes : (u v : ℕ) (l : Link) → l .relation ≡ 1 → l .a ≡ u → l .b ≡ v → provides u v l ≡ true
 unfolding provides
 provides-yes u v l p q r = cc (eq-eqb (l .relation) 1 p, eq-eqb (l .a) u q, eq-eqb (l .b) v r)
 
 pub below-link : (ls : List Link) (u v : ℕ) → Below ls u v → (l : Link) × In l ls × (l .relation ≡ 1) × (l .a ≡ u) × (l .b ≡ v)
 below-link ls u v e =
-    let f = anyOf-one (provides u v) ls e in
-    let g = provides-ends u v (f .0) (f .2) in
-    (f .0, f .1, g .0, g .1, g .2)
+    let (l, m, f) = anyOf-one (provides u v) ls e in
+    let (r, p, q) = provides-ends u v l f in
+    (l, m, r, p, q)
 
 pub link-below : (ls : List Link) (l : Link) → In l ls → l .relation ≡ 1 → Below ls (l .a) (l .b)
 link-below ls l m e = anyOf-true (provides (l .a) (l .b)) ls l m (provides-yes (l .a) (l .b) l e refl refl)
 
 -- one link more in front, and one less
-pub reaches-more : (ls : List Link) (k u w v : ℕ) → Below ls u w → reaches ls k w v ≡ true → reaches ls (suc k) u v ≡ true
+reaches-more : (ls : List Link) (k u w v : ℕ) → Below ls u w → reaches ls k w v ≡ true → reaches ls (suc k) u v ≡ true
 unfolding reaches
 reaches-more ls k u w v b r =
     let (l, m, e, p, q) = below-link ls u w b in
@@ -94,21 +90,25 @@ chain-reaches ls u [] v c = c
 chain-reaches ls u (w ∷ us) v c = reaches-more ls (length us) u w v (c .0) (chain-reaches ls w us v (c .1))
 
 -- every AS that a chain leaves is the provider of a link
-below-provider : (ls : List Link) (u v x : ℕ) → Below ls u v → x ≡ u → In x (map (λ (l : Link). l .a) ls)
+abbrev providers : List Link → List ℕ
+providers ls = map (λ (l : Link). l .a) ls
+
+below-provider : (ls : List Link) (u v x : ℕ) → Below ls u v → x ≡ u → In x (providers ls)
 below-provider ls u v x b e =
     let (l, m, r, p, q) = below-link ls u v b in
     rw (e ∙ sym p) (in-map (λ (l : Link). l .a) ls l m)
 
-pub chain-providers : (ls : List Link) (u : ℕ) (us : List ℕ) (v : ℕ) → Chain ls u us v → (x : ℕ) → In x (u ∷ us) → In x (map (λ (l : Link). l .a) ls)
+chain-providers : (ls : List Link) (u : ℕ) (us : List ℕ) (v : ℕ) → Chain ls u us v → (x : ℕ) → In x (u ∷ us) → In x (providers ls)
 chain-providers ls u [] v c x = ⊎-elim (below-provider ls u v x c) (λ m. absurd m)
 chain-providers ls u (w ∷ us) v c x = ⊎-elim (below-provider ls u w x (c .0)) (chain-providers ls w us v (c .1) x)
 
 pub chain-short : (ls : List Link) (u : ℕ) (us : List ℕ) (v : ℕ) → Chain ls u us v → Distinct (u ∷ us) → length us < length ls
 chain-short ls u us v c d =
-    omega (arith, pigeon (u ∷ us) (map (λ (l : Link). l .a) ls) d (chain-providers ls u us v c), length-map ls (λ (l : Link). l .a))
+    omega (arith, pigeon (u ∷ us) (providers ls) d (chain-providers ls u us v c), length-map ls (λ (l : Link). l .a))
 
 -- the rest of a chain from an AS that it leaves, and the part up to it
-chain-from : (ls : List Link) (u : ℕ) (us : List ℕ) (v x : ℕ) → Chain ls u us v → Distinct (u ∷ us) → In x (u ∷ us) → (vs : List ℕ) × Chain ls x vs v × Distinct (x ∷ vs)
+chain-from : (ls : List Link) (u : ℕ) (us : List ℕ) (v x : ℕ) → Chain ls u us v → Distinct (u ∷ us) → In x (u ∷ us)
+    → (vs : List ℕ) × Chain ls x vs v × Distinct (x ∷ vs)
 chain-from ls u [] v x c d = ⊎-elim (λ e. rw e ([], c, d)) (λ m. absurd m)
 chain-from ls u (w ∷ us) v x c d = ⊎-elim (λ e. rw e (w ∷ us, c, d)) (chain-from ls w us v x (c .1) (d .1))
 
@@ -126,12 +126,12 @@ reaches-chain ls zero u v r = ([], r, (tt, tt))
 reaches-chain ls (suc k) u v r =
     let (w, b, s) = reaches-less ls k u v r in
     let (us, c, d) = reaches-chain ls k w v s in
-    ⊎-elim (chain-from ls w us v u c d) (λ (n : Without u (w ∷ us)). (w ∷ us, (b, c), (n, d))) (in-or-not u (w ∷ us))
+    ⊎-elim (chain-from ls w us v u c d) (λ n. (w ∷ us, (b, c), (not-in u (w ∷ us) n, d))) (in-or-not u (w ∷ us))
 
 -- a chain names a provider twice only if there is a ring
 pub chain-ring : (ls : List Link) (u : ℕ) (us : List ℕ) (v : ℕ) → Chain ls u us v → Ring ls ⊎ Distinct (u ∷ us)
 chain-ring ls u [] v c = inr (tt, tt)
 chain-ring ls u (w ∷ us) v c =
-    ⊎-elim (λ (m : In u (w ∷ us)). (let (k, r) = chain-to ls u (w ∷ us) v u c m in inl (u, k, r)))
-    (λ (n : Without u (w ∷ us)). ⊎-elim inl (λ (d : Distinct (w ∷ us)). inr (n, d)) (chain-ring ls w us v (c .1)))
+    ⊎-elim (λ m. (let (k, r) = chain-to ls u (w ∷ us) v u c m in inl (u, k, r)))
+    (λ n. ⊎-elim inl (λ (d : Distinct (w ∷ us)). inr (not-in u (w ∷ us) n, d)) (chain-ring ls w us v (c .1)))
     (in-or-not u (w ∷ us))

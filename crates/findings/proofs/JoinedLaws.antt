@@ -1,18 +1,17 @@
--- The test `joined` is 'every two different tops are peers', read off test by test.
+-- The test `joined` is 'every two different tops are peers', read off pair by pair.
+use Prim.Native.Nat.{ℕ}
 use mathlib.Core.Path.{_≡_, refl, _∙_, ap}
-use mathlib.Core.Logic.{_↔_, inl, inr, ⊎-elim, _≢_}
+use mathlib.Core.Logic.{_↔_, inl, inr, _≢_}
 use mathlib.Core.Bool.{Bool, true, false, not, _&&_, _||_}
 use mathlib.Core.List.{List, [], _∷_}
-use Prim.Native.Nat.{ℕ}
 use lib.Dec.{eqb}
-use native.Mathlib.Omega.{arith}
-use borrow.Author.Tests.{eqb-true, eqb-false, ne-eqb}
+use borrow.Author.Tests.{eqb-false, ne-eqb}
 use Rattle.rules.specs.declared.Link.{Link}
 use Rattle.rules.specs.Lists.{In, allOf}
 use Rattle.rules.specs.Network.{asesOf}
 use Rattle.rules.specs.Findings.{isTop, arePeers, Joined, joined}
-use Rattle.findings.specs.Joinings.{pairJoined}
 use Rattle.rules.proofs.Tests.{and-left, and-right, and-yes}
+use Rattle.findings.specs.Joinings.{pairJoined, meets}
 
 module _ {A : Type 0} (f : A → Bool) where
   pub allOf-each : (l : List A) → allOf f l ≡ true → (x : A) → In x l → f x ≡ true
@@ -23,6 +22,7 @@ module _ {A : Type 0} (f : A → Bool) where
   allOf-true [] h = refl
   allOf-true (y ∷ l) h = and-yes (f y) (allOf f l) (h y (inl refl)) (allOf-true l (λ x m. h x (inr m)))
 
+-- one pair
 pair-yes : (s t : Bool) (u v : ℕ) (p : Bool) → (not (s && t) || eqb u v || p) ≡ true → s ≡ true → t ≡ true → u ≢ v → p ≡ true
 pair-yes s t u v p e f g ne = cc (ne-eqb u v ne)
 
@@ -36,12 +36,13 @@ pub joined-is : (ls : List Link) → (joined ls ≡ true) ↔ Joined ls
 unfolding joined
 joined-is ls = (to, from)
   where
-    to : allOf (λ u. allOf (pairJoined ls u) (asesOf ls)) (asesOf ls) ≡ true → Joined ls
+    to : allOf (meets ls) (asesOf ls) ≡ true → Joined ls
     to e u v m n s t ne =
         pair-yes (isTop ls u) (isTop ls v) u v (arePeers ls u v)
-        (allOf-each (pairJoined ls u) (asesOf ls) (allOf-each (λ (u : ℕ). allOf (pairJoined ls u) (asesOf ls)) (asesOf ls) e u m) v n) s t ne
+        (allOf-each (pairJoined ls u) (asesOf ls) (allOf-each (meets ls) (asesOf ls) e u m) v n) s t ne
 
-    from : Joined ls → allOf (λ u. allOf (pairJoined ls u) (asesOf ls)) (asesOf ls) ≡ true
+    from : Joined ls → allOf (meets ls) (asesOf ls) ≡ true
     from h =
-        allOf-true (λ (u : ℕ). allOf (pairJoined ls u) (asesOf ls)) (asesOf ls)
-        (λ u m. allOf-true (pairJoined ls u) (asesOf ls) (λ v n. pair-from (isTop ls u) (isTop ls v) u v (eqb u v) (arePeers ls u v) refl (h u v m n)))
+        allOf-true (meets ls) (asesOf ls)
+        (λ u m. allOf-true (pairJoined ls u) (asesOf ls)
+        (λ v n. pair-from (isTop ls u) (isTop ls v) u v (eqb u v) (arePeers ls u v) refl (h u v m n)))

@@ -1,33 +1,33 @@
 -- One top against all others, and all of them: what the flags say at every place is what the tests say of every AS.
 use Prim.Native.Nat.{ℕ, _+_, _*_, _≤_, _<_}
-use mathlib.Core.Path.{_≡_, refl, sym, _∙_, ap, subst}
-use mathlib.Core.Logic.{_⊎_, inl, inr, ⊎-elim, _≢_}
-use mathlib.Core.Bool.{Bool, true, false, not, _&&_, _||_, false≢true, or-assoc}
+use mathlib.Core.Path.{_≡_, refl, sym, _∙_, ap}
+use mathlib.Core.Logic.{inl, ⊎-elim}
+use mathlib.Core.Bool.{Bool, true, false, not, _&&_, _||_, false≢true}
 use mathlib.Core.List.{List}
 use native.Mathlib.Omega.{arith}
 use lib.Dec.{eqb}
 use lib.ListN.{length, getD}
-use borrow.Author.Tests.{eqb-true, eqb-false, eq-eqb, ne-eqb, not-false}
-use Rattle.rules.specs.Lists.{In, anyOf, allOf}
+use borrow.Author.Tests.{eq-eqb, ne-eqb, not-false}
+use Rattle.rules.specs.Lists.{In, allOf}
 use Rattle.rules.specs.Network.{linksOf}
 use Rattle.rules.specs.Findings.{isTop, arePeers, joined}
 use Rattle.rules.proofs.NetworkLaws.{ases-distinct}
+use Rattle.network.proofs.Numbers.{same?}
 use Rattle.offers.specs.Ways.{placeIn}
 use Rattle.offers.proofs.PlaceLaws.{at-in, place-in, place-at}
 use Rattle.findings.specs.declared.Parts.{Parts}
-use Rattle.findings.specs.Rooms.{flagAt, flag, asesIn, Laid, Within}
-use Rattle.findings.specs.Tellings.{tells}
-use Rattle.findings.specs.Peelings.{Sized}
-use Rattle.findings.specs.Joinings.{Started, Chosen, Peered, metAt, AllMet, pairJoined, Meeting, Joining}
+use Rattle.findings.specs.Rooms.{asesIn, flagAt, flag, Within}
+use Rattle.findings.specs.Joinings.{Started, Chosen, Peered, metAt, AllMet, pairJoined, meets, Meeting, Joining}
 use Rattle.findings.proofs.JoinedLaws.{allOf-each, allOf-true}
-use Rattle.findings.proofs.RoomLaws.{same?, within-same, within-more, within-wider, within-flag, laid-kept, flag-kept}
-use Rattle.findings.proofs.TellLaws.{told-same}
-use Rattle.findings.proofs.TopLaws.{told-peers}
+use Rattle.findings.proofs.RoomLaws.{within-same, within-more, within-wider, laid-place, flag-kept}
+use Rattle.findings.proofs.TellLaws.{heard-same}
+use Rattle.findings.proofs.TopLaws.{heard-peers}
 
--- a test of every AS, by places
+-- Tests -------------------------------------------------------------------------------------------------------------------
+
+-- of every AS, by places
 allOf-yes : (f : ℕ → Bool) (us : List ℕ) → ((k : ℕ) → k < length us → f (getD us k 0) ≡ true) → true ≡ allOf f us
-allOf-yes f us h =
-    sym (allOf-true f us (λ x m. ap f (sym (place-in us x m .1)) ∙ h (placeIn us x) (place-in us x m .0)))
+allOf-yes f us h = sym (allOf-true f us (λ x m. ap f (sym (place-in us x m .1)) ∙ h (placeIn us x) (place-in us x m .0)))
 
 allOf-not : (f : ℕ → Bool) (us : List ℕ) (k : ℕ) → k < length us → f (getD us k 0) ≡ false → false ≡ allOf f us
 allOf-not f us k l e = go (allOf f us) (λ h. false≢true (sym e ∙ allOf-each f us h (getD us k 0) (at-in 0 us k l)))
@@ -36,7 +36,7 @@ allOf-not f us k l e = go (allOf f us) (λ h. false≢true (sym e ∙ allOf-each
     go true d = absurd (d refl)
     go false d = refl
 
--- two tests that hold together
+-- that hold together
 eqb-same : (a b c d : ℕ) → (a ≡ b → c ≡ d) → (c ≡ d → a ≡ b) → eqb a b ≡ eqb c d
 eqb-same a b c d f g = ⊎-elim (λ e. eq-eqb a b e ∙ sym (eq-eqb c d (f e))) (λ n. ne-eqb a b n ∙ sym (ne-eqb c d (λ e. n (g e)))) (same? a b)
 
@@ -48,7 +48,7 @@ pair : (o v e p s m : Bool) → o ≡ true → s ≡ not v → m ≡ (e || p) �
 pair o true e p s m i j k = cc
 pair o false e p s m i j k = cc
 
--- One top ------------------------------------------------------------------------------------------------------------------------
+-- One AS ------------------------------------------------------------------------------------------------------------------
 
 module _ {ws t : List ℕ} {s : Parts} (h : Started ws s t) (p : ℕ) (l : p < s .ases) where
   abbrev us : List ℕ
@@ -57,47 +57,44 @@ module _ {ws t : List ℕ} {s : Parts} (h : Started ws s t) (p : ℕ) (l : p < s
   abbrev one : ℕ
   one = getD (asesIn ws) p 0
 
-  one-in : In one us
-  one-in = at-in 0 us p (omega (arith, h .laid .ases))
-
   one-place : placeIn us one ≡ p
   one-place = place-at us (ases-distinct (linksOf ws)) p (omega (arith, h .laid .ases))
 
   served-one : flagAt t (s .served + p) ≡ not (isTop (linksOf ws) one)
-  served-one = ap (λ (k : ℕ). flagAt t (s .served + k)) (sym one-place) ∙ h .served one one-in
+  served-one =
+      ap (λ (k : ℕ). flagAt t (s .served + k)) (sym one-place) ∙ h .served one (at-in 0 us p (omega (arith, h .laid .ases)))
 
-  -- no top meets everybody
+  -- no top meets every top
   pub meeting-served : flagAt t (s .served + p) ≡ true → Meeting ws s p t t true
   meeting-served e =
       record {
         within = within-same (s .chosen) (2 * s .ases) t;
-        reply = sym (allOf-true (pairJoined (linksOf ws) one) us (λ v m. held (isTop (linksOf ws) one) (isTop (linksOf ws) v) (eqb one v) (arePeers (linksOf ws) one v) (sym served-one ∙ e)));
+        reply = sym (allOf-true (pairJoined (linksOf ws) one) us
+            (λ v m. held (isTop (linksOf ws) one) (isTop (linksOf ws) v) (eqb one v) (arePeers (linksOf ws) one v) (sym served-one ∙ e)));
       }
     where
       held : (a b c d : Bool) → not a ≡ true → (not (a && b) || c || d) ≡ true
       held true b c d f = absurd (false≢true f)
       held false b c d f = refl
 
-  -- the place of an AS is p if the AS is the chosen one
-  place-one : (v : ℕ) → In v us → eqb (placeIn us v) p ≡ eqb v one
-  place-one v m = eqb-same (placeIn us v) p v one (λ e. sym (place-in us v m .1) ∙ ap (λ (k : ℕ). getD us k 0) e) (λ e. ap (placeIn us) e ∙ one-place)
-
+  -- a top meets whom the two passes tell
   module _ {a b : List ℕ} (c : Chosen s p t a) (q : Peered ws s a b) (top : flagAt t (s .served + p) ≡ false) where
-    place-fits : (v : ℕ) → In v us → placeIn us v < s .ases
-    place-fits v m = omega (arith, h .laid .ases, place-in us v m .0)
-
     changes : Within (s .chosen) (2 * s .ases) t b
     changes = within-more (c .within) (within-wider (omega (arith, h .laid .met)) (omega (arith, h .laid .met)) (q .within))
 
-    -- who is met is the chosen one or a peer of it
+    is-one : (y : ℕ) → In y us → eqb (placeIn us y) p ≡ eqb y one
+    is-one y m =
+        eqb-same (placeIn us y) p y one (λ e. sym (place-in us y m .1) ∙ ap (λ (k : ℕ). getD us k 0) e) (λ e. ap (placeIn us) e ∙ one-place)
+
     chosen-one : (y : ℕ) → In y us → flag ws a (s .chosen) y ≡ eqb y one
-    chosen-one y m = c .chosen (placeIn us y) (place-fits y m) ∙ place-one y m
+    chosen-one y m = c .chosen (placeIn us y) (laid-place (h .laid) y m) ∙ is-one y m
 
     met-peers : (v : ℕ) → In v us → flag ws b (s .met) v ≡ (eqb one v || arePeers (linksOf ws) one v)
     met-peers v m =
         q .flags v m
-        ∙ gather _ _ _ _ _ _ _ (c .met (placeIn us v) (place-fits v m) ∙ place-one v m ∙ eqb-same v one one v sym sym)
-        (told-same ws 0 0 (flag ws a (s .chosen)) (λ y. eqb y one) v chosen-one) (told-same ws 0 1 (flag ws a (s .chosen)) (λ y. eqb y one) v chosen-one) (told-peers (linksOf ws) one v)
+        ∙ gather _ _ _ _ _ _ _ (c .met (placeIn us v) (laid-place (h .laid) v m) ∙ is-one v m ∙ eqb-same v one one v sym sym)
+        (heard-same ws 0 0 (flag ws a (s .chosen)) (λ y. eqb y one) v chosen-one)
+        (heard-same ws 0 1 (flag ws a (s .chosen)) (λ y. eqb y one) v chosen-one) (heard-peers (linksOf ws) one v)
 
     met-pair : (v : ℕ) → In v us → metAt s b (placeIn us v) ≡ pairJoined (linksOf ws) one v
     met-pair v m =
@@ -105,33 +102,31 @@ module _ {ws t : List ℕ} {s : Parts} (h : Started ws s t) (p : ℕ) (l : p < s
         (flag-kept ws (s .served) v changes (inl (omega (arith, h .laid .ases, h .laid .chosen))) m ∙ h .served v m) (met-peers v m)
 
     met-at : (k : ℕ) → k < length us → metAt s b k ≡ pairJoined (linksOf ws) one (getD us k 0)
-    met-at k n = ap (metAt s b) (sym (place-at us (ases-distinct (linksOf ws)) k n)) ∙ met-pair (getD us k 0) (at-in 0 us k n)
-
-    pub meeting-laid : Laid ws b s
-    meeting-laid = laid-kept (h .laid) (omega (arith, h .laid .chosen, h .laid .served)) changes
+    met-at k n =
+        ap (metAt s b) (sym (place-at us (ases-distinct (linksOf ws)) k n)) ∙ met-pair (getD us k 0) (at-in 0 us k n)
 
     pub meeting-top : (r : Bool) → AllMet s b r → Meeting ws s p t b r
     meeting-top true n =
-        record { within = changes; reply = allOf-yes (pairJoined (linksOf ws) one) us (λ k i. sym (met-at k i) ∙ n k (omega (arith, h .laid .ases))) }
+        record {
+          within = changes;
+          reply = allOf-yes (pairJoined (linksOf ws) one) us (λ k i. sym (met-at k i) ∙ n k (omega (arith, h .laid .ases)));
+        }
     meeting-top false (k, n, e) =
         let i : k < length us = omega (arith, h .laid .ases) in
         record { within = changes; reply = allOf-not (pairJoined (linksOf ws) one) us k i (sym (met-at k i) ∙ e) }
 
--- All of them ----------------------------------------------------------------------------------------------------------------------
-
-abbrev pub meets : List ℕ → ℕ → Bool
-meets ws k = allOf (pairJoined (linksOf ws) (getD (asesIn ws) k 0)) (asesIn ws)
+-- All of them -------------------------------------------------------------------------------------------------------------
 
 module _ {ws t u : List ℕ} {s : Parts} (h : Started ws s t) (w : Within (s .chosen) (2 * s .ases) t u) where
-  pub joining-yes : {p : ℕ} → s .ases ≤ p → ((k : ℕ) → k < p → meets ws k ≡ true) → Joining ws s t u true
+  pub joining-yes : {p : ℕ} → s .ases ≤ p → ((k : ℕ) → k < p → meets (linksOf ws) (getD (asesIn ws) k 0) ≡ true) → Joining ws s t u true
   unfolding joined
   joining-yes l e =
-      record { within = w; reply = allOf-yes (λ x. allOf (pairJoined (linksOf ws) x) (asesIn ws)) (asesIn ws) (λ k n. e k (omega (arith, h .laid .ases))) }
+      record { within = w; reply = allOf-yes (meets (linksOf ws)) (asesIn ws) (λ k n. e k (omega (arith, h .laid .ases))) }
 
   pub joining-not : {v : List ℕ} {p : ℕ} {r : Bool} → p < s .ases → Meeting ws s p u v r → r ≡ false → Joining ws s t v false
   unfolding joined
-  joining-not {v} {p} l m e =
+  joining-not {p = p} l m e =
       record {
         within = within-more w (m .within);
-        reply = allOf-not (λ x. allOf (pairJoined (linksOf ws) x) (asesIn ws)) (asesIn ws) p (omega (arith, h .laid .ases)) (sym (m .reply) ∙ e);
+        reply = allOf-not (meets (linksOf ws)) (asesIn ws) p (omega (arith, h .laid .ases)) (sym (m .reply) ∙ e);
       }

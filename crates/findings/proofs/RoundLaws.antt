@@ -1,95 +1,95 @@
 -- Passes of peeling: an AS on a ring has a customer on the ring, so none of them goes; where a pass takes none away, whoever is left
 -- has a customer left, and that makes a ring.
-use Prim.Native.Nat.{ℕ, _+_, _*_, _≤_, _<_}
+use Prim.Native.Nat.{ℕ, _+_, _≤_, _<_}
 use mathlib.Core.Path.{_≡_, refl, sym, _∙_, ap, subst}
-use mathlib.Core.Logic.{_⊎_, inl, inr, ⊎-elim}
-use mathlib.Core.Bool.{Bool, true, false, _&&_, _||_, false≢true}
+use mathlib.Core.Logic.{inl, inr}
+use mathlib.Core.Bool.{Bool, true, false, false≢true}
 use mathlib.Core.List.{List}
 use native.Mathlib.Omega.{arith}
 use lib.ListN.{length, getD}
-use Rattle.rules.specs.declared.Link.{Link}
-use Rattle.rules.specs.Lists.{In, anyOf}
+use Rattle.rules.specs.Lists.{In}
 use Rattle.rules.specs.Network.{linksOf}
-use Rattle.rules.specs.Findings.{reaches, Ring, ringed}
-use Rattle.rules.proofs.Tests.{and-left, and-right, and-yes}
+use Rattle.rules.specs.Findings.{ringed}
+use Rattle.rules.proofs.Tests.{and-right, and-yes}
 use Rattle.rules.proofs.ListLaws.{anyOf-true, anyOf-one}
 use Rattle.rules.proofs.NetworkLaws.{ases-in, ases-distinct}
 use Rattle.offers.specs.Ways.{placeIn}
 use Rattle.offers.proofs.PlaceLaws.{at-in, place-in, place-at}
 use Rattle.findings.specs.declared.Parts.{Parts}
 use Rattle.findings.specs.declared.Pass.{Pass}
-use Rattle.findings.specs.Rooms.{flagAt, flag, asesIn, Laid, Within, Filled}
+use Rattle.findings.specs.Rooms.{asesIn, flagAt, flag, Sized, Laid, Within, Filled, AnySet}
 use Rattle.findings.specs.Tellings.{teller, hearer, tells, Telling, Told}
-use Rattle.findings.specs.Peelings.{onesIn, Sized, Fewer, Peeled, hasCustomer, Round, RingsLeft, Bare, Some}
+use Rattle.findings.specs.Peelings.{onesIn, Fewer, Peeled, hasCustomer, Round, RingsLeft, Bare}
 use Rattle.findings.proofs.Chains.{Below, below-link, link-below}
 use Rattle.findings.proofs.RingLaws.{ringed-ring, ring-ringed, reaches-as, ring-next, left-ring}
-use Rattle.findings.proofs.RoomLaws.{within-more, within-wider, within-flag, laid-kept, flag-kept, filled-flag}
-use Rattle.findings.proofs.TellLaws.{tells-yes, tells-means, telling, told-same, told-by}
+use Rattle.findings.proofs.RoomLaws.{within-more, within-wider, within-flag, laid-kept, laid-place, flag-kept, filled-flag}
+use Rattle.findings.proofs.TellLaws.{tells-yes, tells-means, telling, heard-same, told-by}
 use Rattle.findings.proofs.PeelLaws.{ones-same}
+
+-- One pass ----------------------------------------------------------------------------------------------------------------
 
 -- from customers to providers, over who is left
 abbrev pub upPass : Parts → Pass
 upPass s = record { relation = 1; way = 1; from = s .left; to = s .met }
 
-pub up-telling : {ws t a : List ℕ} {s : Parts} → Laid ws t s → Filled (s .met) (s .ases) 0 t a → Telling ws a s (upPass s)
-up-telling {s = s} h f =
-    telling (laid-kept h (omega (arith, h .met, h .chosen, h .served)) (f .within)) (upPass s) (omega arith)
-    (omega (arith, h .met, h .chosen, h .served)) (omega (arith, h .met, h .chosen, h .served)) (inl (omega (arith, h .met, h .chosen, h .served)))
+module _ {ws t a : List ℕ} {s : Parts} (h : Laid ws t s) (f : Filled (s .met) (s .ases) 0 t a) where
+  -- the part `met` lies behind the part `left`
+  behind : s .left + s .ases ≤ s .met
+  behind = omega (arith, h .met, h .chosen, h .served)
 
--- One pass -----------------------------------------------------------------------------------------------------------------------
+  pub up-telling : Telling ws a s (upPass s)
+  up-telling =
+      telling (laid-kept h (omega (arith, behind)) (f .within)) (upPass s) (omega arith) (omega (arith, behind)) (omega (arith, behind)) (inl behind)
 
-module _ {ws t a b : List ℕ} {s : Parts} (h : Laid ws t s) (f : Filled (s .met) (s .ases) 0 t a) (o : Told ws (upPass s) (linksOf ws) a b) where
-  abbrev us : List ℕ
-  us = asesIn ws
+  module _ {b : List ℕ} (o : Told ws (upPass s) (linksOf ws) a b) where
+    met-part : Within (s .met) (s .ases) t b
+    met-part = within-more (f .within) (subst (λ (n : ℕ). Within (s .met) n a b) (sym (h .ases)) (o .within))
 
-  met-part : Within (s .met) (s .ases) t b
-  met-part = within-more (f .within) (subst (λ (n : ℕ). Within (s .met) n a b) (sym (h .ases)) (o .within))
+    pub peel-sized : Sized s b
+    peel-sized =
+        record { served = omega (arith, h .served); met = omega (arith, h .met, h .chosen); fits = omega (arith, h .fits, met-part .long) }
 
-  -- who was left is as before
-  left-same : (k : ℕ) → k < s .ases → flagAt b (s .left + k) ≡ flagAt t (s .left + k)
-  left-same k l = within-flag met-part (s .left + k) (inl (omega (arith, h .met, h .chosen, h .served)))
+    -- who was left is as before
+    left-same : (k : ℕ) → k < s .ases → flagAt b (s .left + k) ≡ flagAt t (s .left + k)
+    left-same k l = within-flag met-part (s .left + k) (inl (omega (arith, behind)))
 
-  place-fits : (x : ℕ) → In x us → placeIn us x < s .ases
-  place-fits x m = omega (arith, h .ases, place-in us x m .0)
+    -- who is met has a customer left
+    met-means : (x : ℕ) → In x (asesIn ws) → flag ws b (s .met) x ≡ hasCustomer ws (flag ws t (s .left)) x
+    met-means =
+        told-by ws (flag ws t (s .left)) (λ x. false) o
+        (λ x m. flag-kept ws (s .left) x (f .within) (inl (omega (arith, h .ases, behind))) m)
+        (λ x m. filled-flag ws x f (omega (arith, h .ases)) m)
 
-  -- who is met has a customer left
-  met-means : (x : ℕ) → In x us → flag ws b (s .met) x ≡ hasCustomer ws (flag ws t (s .left)) x
-  met-means =
-      told-by ws (flag ws t (s .left)) (λ x. false) o
-      (λ x m. flag-kept ws (s .left) x (f .within) (inl (omega (arith, h .ases, h .met, h .chosen, h .served))) m)
-      (λ x m. filled-flag ws x f (omega (arith, h .ases)) m)
+    pub peel-round : {u : List ℕ} {r : Bool} → Peeled s (s .ases) b u r → Round ws s t u r
+    peel-round {u} p =
+        record {
+          within =
+              within-more (within-wider (omega (arith, behind)) (omega (arith, h .met, h .chosen, h .served)) met-part)
+              (within-wider (omega arith) (omega arith) (p .within));
+          flags = λ x m. (let k = laid-place h x m in
+              let e : flag ws b (s .left) x ≡ flag ws t (s .left) x = left-same (placeIn (asesIn ws) x) k in
+              p .done (placeIn (asesIn ws) x) k ∙ rw (e, met-means x m));
+          fewer = λ e. subst (λ (n : ℕ). onesIn u (s .left) (s .ases) < n) (ones-same t b (s .left) (s .ases) left-same)
+              (subst (Fewer s b u) e (p .fewer));
+          quiet = λ e x m. ap (λ (w : List ℕ). flag ws w (s .left) x) (subst (Fewer s b u) e (p .fewer))
+              ∙ left-same (placeIn (asesIn ws) x) (laid-place h x m);
+        }
 
-  pub peel-sized : Sized s b
-  peel-sized =
-      record { served = omega (arith, h .served); met = omega (arith, h .met, h .chosen); fits = omega (arith, h .fits, met-part .long) }
+-- All passes --------------------------------------------------------------------------------------------------------------
 
-  pub peel-round : {u : List ℕ} {r : Bool} → Peeled s (s .ases) b u r → Round ws s t u r
-  peel-round {u} {r} p =
-      record {
-        within =
-            within-more (within-wider (omega (arith, h .met, h .chosen, h .served)) (omega (arith, h .met, h .chosen, h .served)) met-part)
-            (within-wider (omega arith) (omega arith) (p .within));
-        flags = λ x m. (let k = place-fits x m in
-            let e : flag ws b (s .left) x ≡ flag ws t (s .left) x = left-same (placeIn us x) k in
-            p .done (placeIn us x) k ∙ rw (e, met-means x m));
-        fewer = λ e. subst (λ (n : ℕ). onesIn u (s .left) (s .ases) < n) (ones-same t b (s .left) (s .ases) left-same) (subst (Fewer s b u) e (p .fewer));
-        quiet = λ e x m. ap (λ (w : List ℕ). flag ws w (s .left) x) (subst (Fewer s b u) e (p .fewer)) ∙ left-same (placeIn us x) (place-fits x m);
-      }
-
--- All passes ---------------------------------------------------------------------------------------------------------------------
-
-pub has-customer : (ws : List ℕ) (f : ℕ → Bool) (x w : ℕ) → Below (linksOf ws) x w → f w ≡ true → hasCustomer ws f x ≡ true
+has-customer : (ws : List ℕ) (f : ℕ → Bool) (x w : ℕ) → Below (linksOf ws) x w → f w ≡ true → hasCustomer ws f x ≡ true
 unfolding teller hearer
 has-customer ws f x w b e =
     let (l, m, r, p, q) = below-link (linksOf ws) x w b in
     anyOf-true (tells 1 1 f x) (linksOf ws) l m (tells-yes 1 1 f x l r p (ap f q ∙ e))
 
-pub customer-of : (ws : List ℕ) (f : ℕ → Bool) (x : ℕ) → hasCustomer ws f x ≡ true → (w : ℕ) × Below (linksOf ws) x w × In w (asesIn ws) × (f w ≡ true)
+customer-of : (ws : List ℕ) (f : ℕ → Bool) (x : ℕ) → hasCustomer ws f x ≡ true → (w : ℕ) × Below (linksOf ws) x w × In w (asesIn ws) × (f w ≡ true)
 unfolding teller hearer
 customer-of ws f x e =
     let (l, m, d) = anyOf-one (tells 1 1 f x) (linksOf ws) e in
     let (r, p, q) = tells-means 1 1 f x l d in
-    (l .b, subst (λ (y : ℕ). Below (linksOf ws) y (l .b)) p (link-below (linksOf ws) l m r), ases-in (linksOf ws) (l .b) l m (inr refl), q)
+    let b = subst (λ (y : ℕ). Below (linksOf ws) y (l .b)) p (link-below (linksOf ws) l m r) in
+    (l .b, b, ases-in (linksOf ws) (l .b) l m (inr refl), q)
 
 module _ {ws t u : List ℕ} {s : Parts} {r : Bool} (o : Round ws s t u r) where
   pub round-laid : Laid ws t s → Laid ws u s
@@ -106,10 +106,11 @@ module _ {ws t u : List ℕ} {s : Parts} {r : Bool} (o : Round ws s t u r) where
   -- where none went, whoever is left has a customer left
   pub quiet-keeps : r ≡ false → (x : ℕ) → In x (asesIn ws) → flag ws u (s .left) x ≡ true → hasCustomer ws (flag ws u (s .left)) x ≡ true
   quiet-keeps q x m e =
-      told-same ws 1 1 (flag ws u (s .left)) (flag ws t (s .left)) x (o .quiet q)
+      heard-same ws 1 1 (flag ws u (s .left)) (flag ws t (s .left)) x (o .quiet q)
       ∙ and-right (flag ws t (s .left) x) (hasCustomer ws (flag ws t (s .left)) x) (sym (o .flags x m) ∙ e)
 
--- whether one is left says whether there is a ring
+-- Who is left in the end --------------------------------------------------------------------------------------------------
+
 module _ {ws t u : List ℕ} {s : Parts} (n : s .ases ≡ length (asesIn ws)) (all : RingsLeft ws s t) (b : Bare ws s t u) where
   Left : ℕ → Type 0
   Left x = In x (asesIn ws) × (flag ws u (s .left) x ≡ true)
@@ -120,22 +121,23 @@ module _ {ws t u : List ℕ} {s : Parts} (n : s .ases ≡ length (asesIn ws)) (a
       let (w, d, i, f) = customer-of ws (flag ws u (s .left)) x (b .keeps x m e) in
       (w, d, (i, f))
 
-  some-ring : Some u (s .left) (s .ases) true → ringed (linksOf ws) ≡ true
+  one-left : AnySet u (s .left) (s .ases) true → ringed (linksOf ws) ≡ true
   unfolding Left
-  some-ring (k, l, e) =
+  one-left (k, l, e) =
       let m = at-in 0 (asesIn ws) k (omega arith) in
       let p = place-at (asesIn ws) (ases-distinct (linksOf ws)) k (omega arith) in
-      ring-ringed (linksOf ws) (left-ring (linksOf ws) Left next (getD (asesIn ws) k 0) (m, ap (λ (j : ℕ). flagAt u (s .left + j)) p ∙ e))
+      ring-ringed (linksOf ws)
+      (left-ring (linksOf ws) Left next (getD (asesIn ws) k 0) (m, ap (λ (j : ℕ). flagAt u (s .left + j)) p ∙ e))
 
-  none-ring : Some u (s .left) (s .ases) false → ringed (linksOf ws) ≡ true → ⊥
-  none-ring h e =
+  none-left : AnySet u (s .left) (s .ases) false → ringed (linksOf ws) ≡ true → ⊥
+  none-left h e =
       let (x, k, c) = ringed-ring (linksOf ws) e in
       let m = place-in (asesIn ws) x (reaches-as (linksOf ws) k x x c) .0 in
       false≢true (sym (h (placeIn (asesIn ws) x) (omega arith)) ∙ b .rings all x k c)
 
-  pub ring-found : (r : Bool) → Some u (s .left) (s .ases) r → r ≡ ringed (linksOf ws)
-  ring-found true h = sym (some-ring h)
-  ring-found false h = go (ringed (linksOf ws)) (none-ring h)
+  pub ring-found : (r : Bool) → AnySet u (s .left) (s .ases) r → r ≡ ringed (linksOf ws)
+  ring-found true h = sym (one-left h)
+  ring-found false h = go (ringed (linksOf ws)) (none-left h)
     where
       go : (q : Bool) → (q ≡ true → ⊥) → false ≡ q
       go true d = absurd (d refl)

@@ -3,8 +3,8 @@
 --   Going ws p rest ls t u   u is t after the pass p over those links of ls that are not in rest
 use Prim.Native.Nat.{ℕ, _+_, _-_, _*_, _≤_, _<_}
 use mathlib.Core.Path.{_≡_, refl, sym, _∙_, ap, subst}
-use mathlib.Core.Logic.{_⊎_, inl, inr, ⊎-elim, ⊎-swap, _≢_}
-use mathlib.Core.Bool.{Bool, true, false, _&&_, _||_, or-false, and-false, or-assoc}
+use mathlib.Core.Logic.{_⊎_, inl, inr, ⊎-elim, _≢_}
+use mathlib.Core.Bool.{Bool, true, false, _&&_, _||_, or-false}
 use mathlib.Core.List.{List, [], _∷_}
 use native.Mathlib.Omega.{arith}
 use lib.Dec.{eqb}
@@ -15,17 +15,17 @@ use Rattle.rules.specs.Lists.{In, anyOf}
 use Rattle.rules.specs.Network.{linksOf, linkAt}
 use Rattle.rules.proofs.Tests.{and-left, and-right}
 use Rattle.network.specs.Prefix.{linksFrom}
+use Rattle.network.proofs.Numbers.{same?}
 use Rattle.network.proofs.PrefixLaws.{links-next, links-end}
 use Rattle.offers.specs.Ways.{placeIn}
-use Rattle.offers.proofs.PlaceLaws.{place-in}
 use Rattle.findings.specs.declared.Parts.{Parts}
 use Rattle.findings.specs.declared.Pass.{Pass}
-use Rattle.findings.specs.Rooms.{flagAt, flag, asesIn, Laid, Within}
-use Rattle.findings.specs.Tellings.{teller, hearer, tells, news, hasNews, Telling, Told}
+use Rattle.findings.specs.Rooms.{asesIn, flagAt, flag, Laid, Within}
+use Rattle.findings.specs.Tellings.{teller, hearer, tells, heard, hasNews, Telling, Told}
 use Rattle.findings.proofs.TellerLaws.{place-one, link-in, place-teller, place-hearer, teller-in, hearer-in}
-use Rattle.findings.proofs.RoomLaws.{same?, within-same, within-more, within-set, laid-kept, set-flag, set-other, flag-kept}
+use Rattle.findings.proofs.RoomLaws.{within-same, within-more, within-set, laid-kept, laid-place, set-flag, set-other, flag-kept}
 
--- One link ---------------------------------------------------------------------------------------------------------------------
+-- What one link tells -----------------------------------------------------------------------------------------------------
 
 module _ (r w : ℕ) (f : ℕ → Bool) (x : ℕ) (l : Link) where
   pub tells-yes : l .relation ≡ r → hearer w l ≡ x → f (teller w l) ≡ true → tells r w f x l ≡ true
@@ -58,9 +58,26 @@ module _ (r w : ℕ) (f : ℕ → Bool) (x : ℕ) (l : Link) where
         and-right (eqb (l .relation) r && eqb (hearer w l) x) (f (teller w l)) e,
       )
 
+-- it depends on the teller's flag alone
 tells-same : (r w : ℕ) (f g : ℕ → Bool) (x : ℕ) (l : Link) → f (teller w l) ≡ g (teller w l) → tells r w f x l ≡ tells r w g x l
 unfolding tells
 tells-same r w f g x l e = ap (λ (b : Bool). eqb (l .relation) r && eqb (hearer w l) x && b) e
+
+-- the two answers to `hasNews`
+module _ (ws t : List ℕ) (p : Pass) (i : ℕ) {l : Link} (same : l ≡ linkAt ws i) where
+  pub news-flag : {k : ℕ} {r : Bool} → l .relation ≡ p .relation → k ≡ getD t (2 * i + p .way) 0 → r ≡ flagAt t (p .from + k)
+      → r ≡ hasNews ws t p i
+  news-flag {k} e f g =
+      let on : linkAt ws i .relation ≡ p .relation = ap (λ (j : Link). j .relation) (sym same) ∙ e in
+      let at : flagAt t (p .from + k) ≡ flagAt t (p .from + getD t (2 * i + p .way) 0) = ap (λ (j : ℕ). flagAt t (p .from + j)) f in
+      cc (eq-eqb (linkAt ws i .relation) (p .relation) on)
+
+  pub news-none : l .relation ≢ p .relation → false ≡ hasNews ws t p i
+  news-none ne =
+      let off : linkAt ws i .relation ≢ p .relation = λ e. ne (ap (λ (j : Link). j .relation) same ∙ e) in
+      cc (ne-eqb (linkAt ws i .relation) (p .relation) off)
+
+-- One link more -----------------------------------------------------------------------------------------------------------
 
 -- a flag that is set, and one that stays
 now-set : (u a b : Bool) → b ≡ true → u ≡ true → u ≡ (a || (b || false))
@@ -71,82 +88,79 @@ stays : (u a b : Bool) → b ≡ false → u ≡ a → u ≡ (a || (b || false))
 stays u true b e f = cc
 stays u false b e f = cc
 
--- the two answers to `hasNews`
-module _ (ws t : List ℕ) (p : Pass) (i : ℕ) {l : Link} (same : l ≡ linkAt ws i) where
-  pub news-flag : {k : ℕ} {r : Bool} → l .relation ≡ p .relation → k ≡ getD t (2 * i + p .way) 0 → r ≡ flagAt t (p .from + k) → r ≡ hasNews ws t p i
-  news-flag {k} {r} e f g =
-      let on : linkAt ws i .relation ≡ p .relation = ap (λ (j : Link). j .relation) (sym same) ∙ e in
-      let at : flagAt t (p .from + k) ≡ flagAt t (p .from + getD t (2 * i + p .way) 0) = ap (λ (j : ℕ). flagAt t (p .from + j)) f in
-      cc (eq-eqb (linkAt ws i .relation) (p .relation) on)
-
-  pub news-none : l .relation ≢ p .relation → false ≡ hasNews ws t p i
-  news-none ne =
-      let off : linkAt ws i .relation ≢ p .relation = λ e. ne (ap (λ (j : Link). j .relation) same ∙ e) in
-      cc (ne-eqb (linkAt ws i .relation) (p .relation) off)
-
--- who tells and who hears over link i, as words of the room
 module _ {ws t : List ℕ} {s : Parts} {p : Pass} (h : Telling ws t s p) (i : ℕ) (l : i < s .links) where
+  abbrev link : Link
+  link = linkAt ws i
+
   whole : 3 * i + 3 ≤ length ws
   whole = omega (arith, h .laid .links)
 
-  pub teller-place : getD t (2 * i + p .way) 0 ≡ placeIn (asesIn ws) (teller (p .way) (linkAt ws i))
+  tells-in : In (teller (p .way) link) (asesIn ws)
+  tells-in = teller-in ws link (p .way) (link-in ws i whole)
+
+  hears-in : In (hearer (p .way) link) (asesIn ws)
+  hears-in = hearer-in ws link (p .way) (link-in ws i whole)
+
+  -- who tells and who hears, as words of the room
+  teller-place : getD t (2 * i + p .way) 0 ≡ placeIn (asesIn ws) (teller (p .way) link)
   teller-place = h .laid .ends (2 * i + p .way) (omega (arith, h .way)) ∙ place-teller (asesIn ws) ws i (p .way) (h .way) whole
 
-  pub hearer-place : getD t (2 * i + 1 - p .way) 0 ≡ placeIn (asesIn ws) (hearer (p .way) (linkAt ws i))
+  hearer-place : getD t (2 * i + 1 - p .way) 0 ≡ placeIn (asesIn ws) (hearer (p .way) link)
   hearer-place = h .laid .ends (2 * i + 1 - p .way) (omega arith) ∙ place-hearer (asesIn ws) ws i (p .way) (h .way) whole
 
   pub teller-below : getD t (2 * i + p .way) 0 < s .ases
-  teller-below =
-      omega (arith, teller-place, h .laid .ases, place-in (asesIn ws) (teller (p .way) (linkAt ws i)) (teller-in ws (linkAt ws i) (p .way) (link-in ws i whole)) .0)
+  teller-below = omega (arith, teller-place, laid-place (h .laid) (teller (p .way) link) tells-in)
 
   pub hearer-below : getD t (2 * i + 1 - p .way) 0 < s .ases
-  hearer-below =
-      omega (arith, hearer-place, h .laid .ases, place-in (asesIn ws) (hearer (p .way) (linkAt ws i)) (hearer-in ws (linkAt ws i) (p .way) (link-in ws i whole)) .0)
+  hearer-below = omega (arith, hearer-place, laid-place (h .laid) (hearer (p .way) link) hears-in)
+
+  -- the teller's flag
+  abbrev from : ℕ → Bool
+  from = flag ws t (p .from)
+
+  told-flag : flagAt t (p .from + getD t (2 * i + p .way) 0) ≡ from (teller (p .way) link)
+  told-flag = ap (λ (k : ℕ). flagAt t (p .from + k)) teller-place
 
   -- nobody is told
-  pub told-none : hasNews ws t p i ≡ false → Told ws p (linkAt ws i ∷ []) t t
+  pub told-none : hasNews ws t p i ≡ false → Told ws p (link ∷ []) t t
   told-none e =
-      let f : (x : ℕ) → tells (p .relation) (p .way) (flag ws t (p .from)) x (linkAt ws i) ≡ false =
-      λ x. tells-no (p .relation) (p .way) (flag ws t (p .from)) x (linkAt ws i) (ap (λ (k : ℕ). eqb (linkAt ws i .relation) (p .relation) && flagAt t (p .from + k)) (sym teller-place) ∙ e) in
+      let d : (eqb (link .relation) (p .relation) && from (teller (p .way) link)) ≡ false = rw told-flag at e in
       record {
         within = within-same (p .to) (length (asesIn ws)) t;
-        flags = λ x m. stays _ _ _ (f x) refl;
+        flags = λ x m. stays _ _ _ (tells-no (p .relation) (p .way) from x link d) refl;
       }
 
   -- the hearer is told
-  pub told-one : hasNews ws t p i ≡ true
-      → Told ws p (linkAt ws i ∷ []) t (set t (p .to + getD t (2 * i + 1 - p .way) 0) 1)
+  told-one : hasNews ws t p i ≡ true → Told ws p (link ∷ []) t (set t (p .to + getD t (2 * i + 1 - p .way) 0) 1)
   told-one d =
-      let r = eqb-true _ _ (and-left (eqb (linkAt ws i .relation) (p .relation)) _ d) in
-      let e = and-right (eqb (linkAt ws i .relation) (p .relation)) _ d in
-      let f : flag ws t (p .from) (teller (p .way) (linkAt ws i)) ≡ true = ap (λ (k : ℕ). flagAt t (p .from + k)) (sym teller-place) ∙ e in
+      let r : link .relation ≡ p .relation = eqb-true _ _ (and-left (eqb (link .relation) (p .relation)) _ d) in
+      let f : from (teller (p .way) link) ≡ true = sym told-flag ∙ and-right (eqb (link .relation) (p .relation)) _ d in
       let k = p .to + getD t (2 * i + 1 - p .way) 0 in
       let fits : k < length t = omega (arith, hearer-below, h .to-fits) in
       record {
         within = within-set (p .to) (length (asesIn ws)) k 1 t (omega arith) (omega (arith, hearer-below, h .laid .ases));
         flags = λ x m. ⊎-elim
-            (λ q. now-set _ (flag ws t (p .to) x) _ (tells-yes (p .relation) (p .way) (flag ws t (p .from)) x (linkAt ws i) r q f)
+            (λ q. now-set _ (flag ws t (p .to) x) _ (tells-yes (p .relation) (p .way) from x link r q f)
             (ap (λ (j : ℕ). flagAt (set t k 1) (p .to + j)) (ap (placeIn (asesIn ws)) (sym q) ∙ sym hearer-place) ∙ set-flag t k 1 fits))
-            (λ ne. stays _ _ _ (tells-far (p .relation) (p .way) (flag ws t (p .from)) x (linkAt ws i) ne) (set-other t k 1 (p .to + placeIn (asesIn ws) x) (λ d. ne (place-one (asesIn ws) _ x (hearer-in ws (linkAt ws i) (p .way) (link-in ws i whole)) m (omega (arith, hearer-place))))))
-            (same? (hearer (p .way) (linkAt ws i)) x);
+            (λ ne. stays _ _ _ (tells-far (p .relation) (p .way) from x link ne)
+            (set-other t k 1 (p .to + placeIn (asesIn ws) x) (λ e. ne (place-one (asesIn ws) _ x hears-in m (omega (arith, hearer-place))))))
+            (same? (hearer (p .way) link) x);
       }
 
-  pub told-put : {k : ℕ} {u : List ℕ} → hasNews ws t p i ≡ true → k ≡ getD t (2 * i + 1 - p .way) 0 → u ≡ set t (p .to + k) 1 → Told ws p (linkAt ws i ∷ []) t u
+  pub told-put : {k : ℕ} {u : List ℕ} → hasNews ws t p i ≡ true → k ≡ getD t (2 * i + 1 - p .way) 0 → u ≡ set t (p .to + k) 1
+      → Told ws p (link ∷ []) t u
   told-put e f g = rw (g, f) (told-one e)
 
--- All links --------------------------------------------------------------------------------------------------------------------
+-- All links ---------------------------------------------------------------------------------------------------------------
 
 pub record Going (ws : List ℕ) (p : Pass) (rest ls : List Link) (t u : List ℕ) : Type 0 where
   pub within : Within (p .to) (length (asesIn ws)) t u
   pub flags : (x : ℕ) → In x (asesIn ws)
-      → (flag ws u (p .to) x || news p (flag ws t (p .from)) x rest)
-      ≡ (flag ws t (p .to) x || news p (flag ws t (p .from)) x ls)
+      → (flag ws u (p .to) x || heard (p .relation) (p .way) (flag ws t (p .from)) x rest)
+      ≡ (flag ws t (p .to) x || heard (p .relation) (p .way) (flag ws t (p .from)) x ls)
 
 pub going-start : (ws : List ℕ) (p : Pass) (ls : List Link) (t : List ℕ) → Going ws p ls ls t t
 going-start ws p ls t = record { within = within-same (p .to) (length (asesIn ws)) t; flags = λ x m. refl }
-
-pub going-end : {ws : List ℕ} {p : Pass} {ls : List Link} {t u : List ℕ} → Going ws p [] ls t u → Told ws p ls t u
-going-end g = record { within = g .within; flags = λ x m. sym (or-false _) ∙ g .flags x m }
 
 -- what the pass asks still holds
 pub telling-kept : {ws t u : List ℕ} {s : Parts} {p : Pass} → Telling ws t s p → Within (p .to) (length (asesIn ws)) t u → Telling ws u s p
@@ -160,9 +174,42 @@ telling-kept h w =
       apart = h .apart;
     }
 
--- a pass between two of the parts
-pub telling : {ws t : List ℕ} {s : Parts} → Laid ws t s → (p : Pass) → p .way ≤ 1 → (s .left ≤ p .from) × (p .from ≤ s .met) → (s .left ≤ p .to) × (p .to ≤ s .met)
-    → (p .from + s .ases ≤ p .to) ⊎ (p .to + s .ases ≤ p .from) → Telling ws t s p
+regroup : (now was here there rest whole : Bool) → here ≡ there → now ≡ (was || (here || false)) → (was || (there || rest)) ≡ whole
+    → (now || rest) ≡ whole
+regroup now true here there rest whole e f g = cc
+regroup now false true there rest whole e f g = cc
+regroup now false false there rest whole e f g = cc
+
+going-more : {ws t u v : List ℕ} {s : Parts} {p : Pass} {l : Link} {rest : List Link} → Telling ws t s p → In l (linksOf ws)
+    → Going ws p (l ∷ rest) (linksOf ws) t u → Told ws p (l ∷ []) u v → Going ws p rest (linksOf ws) t v
+going-more {ws} {t} {u} {v} {s} {p} {l} {rest} h m g o =
+    let apart : (p .from + length (asesIn ws) ≤ p .to) ⊎ (p .to + length (asesIn ws) ≤ p .from) =
+    ⊎-elim (λ d. inl (omega (arith, h .laid .ases))) (λ d. inr (omega (arith, h .laid .ases))) (h .apart) in
+    let kept = flag-kept ws (p .from) (teller (p .way) l) (g .within) apart (teller-in ws l (p .way) m) in
+    record {
+      within = within-more (g .within) (o .within);
+      flags = λ x n. regroup (flag ws v (p .to) x) (flag ws u (p .to) x) _ _ (heard (p .relation) (p .way) (flag ws t (p .from)) x rest) _
+          (tells-same (p .relation) (p .way) (flag ws u (p .from)) (flag ws t (p .from)) x l kept) (o .flags x n) (g .flags x n);
+    }
+
+-- from link i to link i + 1, and at the end
+pub going-next : {ws t u v : List ℕ} {s : Parts} {p : Pass} (i : ℕ) → Telling ws t s p → i < s .links
+    → Going ws p (linksFrom ws i) (linksOf ws) t u → Told ws p (linkAt ws i ∷ []) u v → Going ws p (linksFrom ws (i + 1)) (linksOf ws) t v
+going-next {ws} {t} {u} {v} {s} {p} i h l g o =
+    let whole : 3 * i + 3 ≤ length ws = omega (arith, h .laid .links) in
+    going-more h (link-in ws i whole) (subst (λ (rest : List Link). Going ws p rest (linksOf ws) t u) (links-next ws i whole) g) o
+
+pub going-done : {ws t u : List ℕ} {s : Parts} {p : Pass} (i : ℕ) → Telling ws t s p → s .links ≤ i
+    → Going ws p (linksFrom ws i) (linksOf ws) t u → Told ws p (linksOf ws) t u
+going-done {ws} {t} {u} {s} {p} i h l g =
+    let e : linksFrom ws i ≡ [] = links-end ws i (omega (arith, h .laid .links)) in
+    let f = subst (λ (rest : List Link). Going ws p rest (linksOf ws) t u) e g in
+    record { within = f .within; flags = λ x m. sym (or-false _) ∙ f .flags x m }
+
+-- A pass between two of the parts -----------------------------------------------------------------------------------------
+
+pub telling : {ws t : List ℕ} {s : Parts} → Laid ws t s → (p : Pass) → p .way ≤ 1 → (s .left ≤ p .from) × (p .from ≤ s .met)
+    → (s .left ≤ p .to) × (p .to ≤ s .met) → (p .from + s .ases ≤ p .to) ⊎ (p .to + s .ases ≤ p .from) → Telling ws t s p
 telling h p w f g a =
     record {
       laid = h;
@@ -173,35 +220,6 @@ telling h p w f g a =
       apart = a;
     }
 
--- one more link told
-regroup : (now was here there rest whole : Bool) → here ≡ there → now ≡ (was || (here || false)) → (was || (there || rest)) ≡ whole → (now || rest) ≡ whole
-regroup now true here there rest whole e f g = cc
-regroup now false true there rest whole e f g = cc
-regroup now false false there rest whole e f g = cc
-
-pub going-more : {ws t u v : List ℕ} {s : Parts} {p : Pass} {l : Link} {rest : List Link} → Telling ws t s p → In l (linksOf ws)
-    → Going ws p (l ∷ rest) (linksOf ws) t u → Told ws p (l ∷ []) u v → Going ws p rest (linksOf ws) t v
-going-more {ws} {t} {u} {v} {s} {p} {l} {rest} h m g o =
-    let kept : flag ws u (p .from) (teller (p .way) l) ≡ flag ws t (p .from) (teller (p .way) l) =
-    flag-kept ws (p .from) (teller (p .way) l) (g .within) (⊎-elim (λ d. inl (omega (arith, h .laid .ases))) (λ d. inr (omega (arith, h .laid .ases))) (h .apart)) (teller-in ws l (p .way) m) in
-    record {
-      within = within-more (g .within) (o .within);
-      flags = λ x n. regroup (flag ws v (p .to) x) (flag ws u (p .to) x) _ _ (news p (flag ws t (p .from)) x rest) _ (tells-same (p .relation) (p .way) (flag ws u (p .from)) (flag ws t (p .from)) x l kept) (o .flags x n) (g .flags x n);
-    }
-
--- from link i to link i + 1, and at the end
-pub going-next : {ws t u v : List ℕ} {s : Parts} {p : Pass} (i : ℕ) → Telling ws t s p → i < s .links
-    → Going ws p (linksFrom ws i) (linksOf ws) t u → Told ws p (linkAt ws i ∷ []) u v → Going ws p (linksFrom ws (i + 1)) (linksOf ws) t v
-going-next {ws} {t} {u} {v} {s} {p} i h l g o =
-    let whole : 3 * i + 3 ≤ length ws = omega (arith, h .laid .links) in
-    going-more h (link-in ws i whole) (subst (λ (rest : List Link). Going ws p rest (linksOf ws) t u) (links-next ws i whole) g) o
-
-pub going-done : {ws t u : List ℕ} {s : Parts} {p : Pass} (i : ℕ) → Telling ws t s p → s .links ≤ i → Going ws p (linksFrom ws i) (linksOf ws) t u → Told ws p (linksOf ws) t u
-going-done {ws} {t} {u} {s} {p} i h l g =
-    going-end (subst (λ (rest : List Link). Going ws p rest (linksOf ws) t u) (links-end ws i (omega (arith, h .laid .links))) g)
-
--- The whole pass, with what the two parts held before it -----------------------------------------------------------------------
-
 pub anyOf-same : {A : Type 0} (f g : A → Bool) (l : List A) → ((x : A) → In x l → f x ≡ g x) → anyOf f l ≡ anyOf g l
 anyOf-same f g [] h = refl
 anyOf-same f g (x ∷ l) h =
@@ -209,15 +227,15 @@ anyOf-same f g (x ∷ l) h =
     let r : anyOf f l ≡ anyOf g l = anyOf-same f g l (λ y m. h y (inr m)) in
     cc
 
--- what is told depends on the tellers' flags alone
-pub told-same : (ws : List ℕ) (r w : ℕ) (f g : ℕ → Bool) (x : ℕ) → ((y : ℕ) → In y (asesIn ws) → f y ≡ g y) → anyOf (tells r w f x) (linksOf ws) ≡ anyOf (tells r w g x) (linksOf ws)
-told-same ws r w f g x h =
+pub heard-same : (ws : List ℕ) (r w : ℕ) (f g : ℕ → Bool) (x : ℕ) → ((y : ℕ) → In y (asesIn ws) → f y ≡ g y)
+    → heard r w f x (linksOf ws) ≡ heard r w g x (linksOf ws)
+heard-same ws r w f g x h =
     anyOf-same (tells r w f x) (tells r w g x) (linksOf ws) (λ l m. tells-same r w f g x l (h (teller w l) (teller-in ws l w m)))
 
+-- what the parts hold after it, from what they held before
 pub told-by : (ws : List ℕ) {t u : List ℕ} {p : Pass} (f g : ℕ → Bool) → Told ws p (linksOf ws) t u
     → ((x : ℕ) → In x (asesIn ws) → flag ws t (p .from) x ≡ f x) → ((x : ℕ) → In x (asesIn ws) → flag ws t (p .to) x ≡ g x)
-    → (x : ℕ) → In x (asesIn ws) → flag ws u (p .to) x ≡ (g x || anyOf (tells (p .relation) (p .way) f x) (linksOf ws))
+    → (x : ℕ) → In x (asesIn ws) → flag ws u (p .to) x ≡ (g x || heard (p .relation) (p .way) f x (linksOf ws))
 told-by ws {t} {u} {p} f g o h k x m =
     let e : flag ws t (p .to) x ≡ g x = k x m in
-    let d : anyOf (tells (p .relation) (p .way) (flag ws t (p .from)) x) (linksOf ws) ≡ anyOf (tells (p .relation) (p .way) f x) (linksOf ws) = told-same ws (p .relation) (p .way) (flag ws t (p .from)) f x h in
-    o .flags x m ∙ rw (e, d)
+    o .flags x m ∙ rw (e, heard-same ws (p .relation) (p .way) (flag ws t (p .from)) f x h)

@@ -7,8 +7,9 @@
 --   metAt s t k        who stands at place k is met or is no top
 --   AllMet s t r       r says whether that holds at every place
 --   pairJoined ls u v  u and v are no two different tops, or peers
---   Meeting ws s p t u r   u is t but for two parts, and r says whether the AS at place p is a peer of every other top, or no top
---   Joining ws s t u r     the same, and r says whether the network is joined
+--   meets ls u         u is a peer of every other top, or no top
+--   Meeting ws s p t u r   u is t but for two parts, and r says whether the AS at place p meets every top
+--   Joining ws s t u r   the same, and r says whether the network is joined
 use Prim.Native.Nat.{ℕ, _+_, _*_, _<_}
 use mathlib.Core.Path.{_≡_}
 use mathlib.Core.Bool.{Bool, true, false, not, _&&_, _||_}
@@ -16,12 +17,12 @@ use mathlib.Core.List.{List}
 use lib.Dec.{eqb}
 use lib.ListN.{getD}
 use Rattle.rules.specs.declared.Link.{Link}
-use Rattle.rules.specs.Lists.{In, anyOf, allOf}
-use Rattle.rules.specs.Network.{linksOf}
+use Rattle.rules.specs.Lists.{In, allOf}
+use Rattle.rules.specs.Network.{linksOf, asesOf}
 use Rattle.rules.specs.Findings.{isTop, arePeers, joined}
 use Rattle.findings.specs.declared.Parts.{Parts}
 use Rattle.findings.specs.Rooms.{flagAt, flag, asesIn, Laid, Within}
-use Rattle.findings.specs.Tellings.{tells}
+use Rattle.findings.specs.Tellings.{heard}
 
 pub record Started (ws : List ℕ) (s : Parts) (u : List ℕ) : Type 0 where
   pub laid : Laid ws u s
@@ -36,8 +37,7 @@ pub record Chosen (s : Parts) (p : ℕ) (t u : List ℕ) : Type 0 where
 pub record Peered (ws : List ℕ) (s : Parts) (t u : List ℕ) : Type 0 where
   pub within : Within (s .met) (s .ases) t u
   pub flags : (x : ℕ) → In x (asesIn ws)
-      → flag ws u (s .met) x
-      ≡ (flag ws t (s .met) x || anyOf (tells 0 0 (flag ws t (s .chosen)) x) (linksOf ws) || anyOf (tells 0 1 (flag ws t (s .chosen)) x) (linksOf ws))
+      → flag ws u (s .met) x ≡ (flag ws t (s .met) x || heard 0 0 (flag ws t (s .chosen)) x (linksOf ws) || heard 0 1 (flag ws t (s .chosen)) x (linksOf ws))
 
 abbrev pub metAt : Parts → List ℕ → ℕ → Bool
 metAt s t k = flagAt t (s .served + k) || flagAt t (s .met + k)
@@ -49,9 +49,12 @@ AllMet s t false = (k : ℕ) × (k < s .ases) × (metAt s t k ≡ false)
 abbrev pub pairJoined : List Link → ℕ → ℕ → Bool
 pairJoined ls u v = not (isTop ls u && isTop ls v) || eqb u v || arePeers ls u v
 
+abbrev pub meets : List Link → ℕ → Bool
+meets ls u = allOf (pairJoined ls u) (asesOf ls)
+
 pub record Meeting (ws : List ℕ) (s : Parts) (p : ℕ) (t u : List ℕ) (r : Bool) : Type 0 where
   pub within : Within (s .chosen) (2 * s .ases) t u
-  pub reply : r ≡ allOf (pairJoined (linksOf ws) (getD (asesIn ws) p 0)) (asesIn ws)
+  pub reply : r ≡ meets (linksOf ws) (getD (asesIn ws) p 0)
 
 pub record Joining (ws : List ℕ) (s : Parts) (t u : List ℕ) (r : Bool) : Type 0 where
   pub within : Within (s .chosen) (2 * s .ases) t u

@@ -3,22 +3,24 @@
 --   partsOf m n        the parts of the room for m links and n ASes
 --   asesIn ws          the ASes of the links ws
 --   flagAt t k         word k is 1; flag ws t at x   so is the word of AS x in the part of t that starts at `at`
---   Laid ws t s        s are the parts for the links ws, they fit in t, and the places of the links' ends stand in t
+--   Sized s t          the parts s stand in t one behind the other
+--   Laid ws t s        s are the parts for the links ws, they stand in t, and the places of the links' ends do
 --   Counted ws n list  n ASes are in the links ws, and the list has a word for each
 --   roomFor ws         the words that the links ws need
 --   shortFault ws have   8 (room): fewer words than that
 --   Roomy ws t         t has as many
 --   Within at n t u    u is t but for the n words from `at` on
 --   Filled at n v t u  u is t with v in these words
+--   AnySet t at n r    r says whether one of these words of t is 1
 use Prim.Native.Nat.{ℕ, _+_, _*_, _/_, _≤_, _<_}
 use mathlib.Core.Path.{_≡_}
 use mathlib.Core.Logic.{_⊎_}
-use mathlib.Core.Bool.{Bool}
+use mathlib.Core.Bool.{Bool, true, false}
 use mathlib.Core.List.{List}
 use lib.Dec.{eqb}
 use lib.ListN.{length, getD}
-use Rattle.rules.specs.Network.{linksOf, asesOf}
 use Rattle.rules.specs.declared.Verdict.{Verdict}
+use Rattle.rules.specs.Network.{linksOf, asesOf}
 use Rattle.rules.specs.Checks.{roomNeed}
 use Rattle.rules.specs.Entry.{roomFault}
 use Rattle.offers.specs.Ways.{placeIn, placesOf}
@@ -37,6 +39,11 @@ asesIn ws = asesOf (linksOf ws)
 
 abbrev pub flag : List ℕ → List ℕ → ℕ → ℕ → Bool
 flag ws t at x = flagAt t (at + placeIn (asesIn ws) x)
+
+pub record Sized (s : Parts) (t : List ℕ) : Type 0 where
+  pub served : s .left + s .ases ≤ s .served
+  pub met : s .served + s .ases ≤ s .met
+  pub fits : s .met + s .ases ≤ length t
 
 pub record Laid (ws t : List ℕ) (s : Parts) : Type 0 where
   pub links : s .links ≡ length ws / 3
@@ -70,3 +77,7 @@ pub record Within (at n : ℕ) (t u : List ℕ) : Type 0 where
 pub record Filled (at n v : ℕ) (t u : List ℕ) : Type 0 where
   pub within : Within at n t u
   pub words : (k : ℕ) → k < n → getD u (at + k) 0 ≡ v
+
+abbrev pub AnySet : List ℕ → ℕ → ℕ → Bool → Type 0
+AnySet t at n true = (k : ℕ) × (k < n) × (flagAt t (at + k) ≡ true)
+AnySet t at n false = (k : ℕ) → k < n → flagAt t (at + k) ≡ false

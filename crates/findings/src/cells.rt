@@ -1,8 +1,8 @@
-// Words of the room: a place, a flag, and many words at once.
-ghost use Prim.Native.Nat.{_+_, _*_, _≤_, _<_};
+// Words of the room: a place, a flag, and many of them at once.
+ghost use Prim.Native.Nat.{_+_, _≤_, _<_};
 ghost use mathlib.Core.Path.{_≡_};
 ghost use lib.ListN.{length, getD, set};
-ghost use Rattle.findings.specs.Rooms.{flagAt, Filled};
+ghost use Rattle.findings.specs.Rooms.{flagAt, AnySet, Filled};
 
 // The place that word k holds.
 pub fn place_at(room: &[u32], k: usize) -> usize
@@ -25,6 +25,21 @@ pub fn put(room: &mut [u32], k: usize, v: u32)
     ensures { λ _. ⌜ now (room .exit) ≡ set (now (room .entry)) k v ⌝ }
 {
     room[k] = v;
+}
+
+// Whether one of the n words from `at` on is 1.
+pub fn any_set(room: &[u32], at: usize, n: usize) -> bool
+    requires { ⌜ at + n ≤ length (now room) ⌝ }
+    ensures { λ r. ⌜ AnySet (now (room .entry)) at n r ⌝ }
+{
+    let mut k = 0;
+    while k < n {
+        if is_set(room, at + k) {
+            return true;
+        }
+        k += 1;
+    }
+    false
 }
 
 // The n words from `at` on get v.

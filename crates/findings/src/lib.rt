@@ -25,7 +25,7 @@ pub enum Found {
 
 // Which words of the room hold what: two per link for the places of its ends, then four parts with a word per AS. A word of these is
 // 1 or 0: the AS is not peeled off; it has a provider; it is the top that is compared with the others; a pass over the links met it.
-pub struct Parts {
+struct Parts {
     pub links: usize,
     pub ases: usize,
     pub left: usize,
@@ -36,7 +36,7 @@ pub struct Parts {
 
 impl Parts {
     // The parts for so many links and ASes.
-    pub fn new(links: usize, ases: usize) -> Parts
+    fn new(links: usize, ases: usize) -> Parts
         requires { ⌜ (links < 4294967296) × (ases < 4294967296) ⌝ }
         ensures { λ r. ⌜ r ≡ partsOf links ases ⌝ }
     {
@@ -53,18 +53,18 @@ impl Parts {
 }
 
 // Relations of links.
-pub const PEERS: u32 = 0;
+const PEERS: u32 = 0;
 
-pub const PROVIDES: u32 = 1;
+const PROVIDES: u32 = 1;
 
 // Ways over a link: from a to b, from b to a.
-pub const DOWN: usize = 0;
+const DOWN: usize = 0;
 
-pub const UP: usize = 1;
+const UP: usize = 1;
 
 // What a pass over the links tells: over links of this relation, in this way, an AS with a 1 in the part `from` gives the other end a 1
 // in the part `to`.
-pub struct Pass {
+struct Pass {
     pub relation: u32,
     pub way: usize,
     pub from: usize,
@@ -85,7 +85,8 @@ fn look(words: &[u32], room: &mut [u32], parts: Parts) -> Found
 // The findings in a room that suffices. The list is scratch memory for the ASes.
 fn find_in(words: &[u32], list: &mut [u32], room: &mut [u32]) -> Found
     requires { ⌜ Counted (now words) (length (asesIn (now words))) (now list) × Roomy (now words) (now room) ⌝ }
-    ensures { λ r. ⌜ (r ≡ Found.Found (ringed (linksOf (now (words .entry)))) (joined (linksOf (now (words .entry))))) × (now (room .exit) ≡ replicate (length (now (room .entry))) 0) ⌝ }
+    ensures { λ r. ⌜ r ≡ Found.Found (ringed (linksOf (now (words .entry)))) (joined (linksOf (now (words .entry)))) ⌝ }
+    ensures { λ _. ⌜ now (room .exit) ≡ replicate (length (now (room .entry))) 0 ⌝ }
 {
     let n = network::list_ases(words, list);
     offers::place_ends(words, list, n, room);
@@ -98,7 +99,8 @@ fn find_in(words: &[u32], list: &mut [u32], room: &mut [u32]) -> Found
 // The findings on links with n ASes, or refusal 8.
 fn find_with(words: &[u32], n: usize, list: &mut [u32], room: &mut [u32]) -> Found
     requires { ⌜ Counted (now words) n (now list) ⌝ }
-    ensures { λ r. ⌜ (r ≡ replyFindings (now (words .entry)) (shortFault (now (words .entry)) (length (now (room .entry))))) × (now (room .exit) ≡ cleared (shortFault (now (words .entry)) (length (now (room .entry)))) (now (room .entry))) ⌝ }
+    ensures { λ r. ⌜ r ≡ replyFindings (now (words .entry)) (shortFault (now (words .entry)) (length (now (room .entry)))) ⌝ }
+    ensures { λ _. ⌜ now (room .exit) ≡ cleared (shortFault (now (words .entry)) (length (now (room .entry)))) (now (room .entry)) ⌝ }
 {
     let need = network::room_need(words.len() / WORDS_PER_LINK, n);
     if room.len() < need {

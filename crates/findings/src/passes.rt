@@ -1,9 +1,8 @@
 // Passes over the links.
-ghost use Prim.Native.Nat.{_+_, _*_, _≤_, _<_};
+ghost use Prim.Native.Nat.{_+_, _*_, _<_};
 ghost use mathlib.Core.Path.{_≡_};
 ghost use mathlib.Core.List.{[], _∷_};
 ghost use Rattle.rules.specs.Network.{linksOf, linkAt};
-ghost use Rattle.findings.specs.Rooms.{asesIn};
 ghost use Rattle.findings.specs.Tellings.{hasNews, Telling, Told};
 use super::Parts;
 use super::Pass;

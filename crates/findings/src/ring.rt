@@ -1,11 +1,10 @@
 // The customer ring: ASes that have no customer left are peeled off, pass after pass. A ring is there if and only if one is left.
-ghost use Prim.Native.Nat.{_+_, _*_, _≤_, _<_};
+ghost use Prim.Native.Nat.{_+_, _<_};
 ghost use mathlib.Core.Path.{_≡_};
-ghost use lib.ListN.{length};
 ghost use Rattle.rules.specs.Network.{linksOf};
 ghost use Rattle.rules.specs.Findings.{ringed};
-ghost use Rattle.findings.specs.Rooms.{Laid};
-ghost use Rattle.findings.specs.Peelings.{Sized, PeeledAt, Peeled, Round, RingsLeft, Bare, Some};
+ghost use Rattle.findings.specs.Rooms.{Sized, Laid};
+ghost use Rattle.findings.specs.Peelings.{PeeledAt, Peeled, Round, RingsLeft, Bare};
 use super::PROVIDES;
 use super::Parts;
 use super::Pass;
@@ -69,26 +68,11 @@ fn strip(words: &[u32], room: &mut [u32], parts: Parts)
     while peel(words, room, parts) {}
 }
 
-// Whether one of the n words from `at` on is 1.
-fn any_set(room: &[u32], at: usize, n: usize) -> bool
-    requires { ⌜ at + n ≤ length (now room) ⌝ }
-    ensures { λ r. ⌜ Some (now (room .entry)) at n r ⌝ }
-{
-    let mut k = 0;
-    while k < n {
-        if cells::is_set(room, at + k) {
-            return true;
-        }
-        k += 1;
-    }
-    false
-}
-
 // Whether there is a customer ring, from a room in which every AS is left.
 pub fn has_ring(words: &[u32], room: &mut [u32], parts: Parts) -> bool
     requires { ⌜ Laid (now words) (now room) parts × RingsLeft (now words) parts (now room) ⌝ }
     ensures { λ r. ⌜ r ≡ ringed (linksOf (now (words .entry))) ⌝ }
 {
     strip(words, room, parts);
-    any_set(room, parts.left, parts.ases)
+    cells::any_set(room, parts.left, parts.ases)
 }

@@ -3,8 +3,7 @@
 ghost use Prim.Native.Nat.{_+_, _*_, _≤_, _<_};
 ghost use mathlib.Core.Path.{_≡_};
 ghost use lib.ListN.{length};
-ghost use Rattle.findings.specs.Rooms.{Laid};
-ghost use Rattle.findings.specs.Peelings.{Sized};
+ghost use Rattle.findings.specs.Rooms.{Sized, Laid};
 ghost use Rattle.findings.specs.Joinings.{Started, Chosen, Peered, metAt, AllMet, Meeting, Joining};
 use super::DOWN;
 use super::PEERS;

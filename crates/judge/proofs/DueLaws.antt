@@ -7,9 +7,11 @@ use mathlib.Core.List.{List, [], _++_, append-nil}
 use native.Mathlib.Omega.{arith}
 use lib.ListN.{length, getD, take, drop}
 use lib.Seq.{take-all, take-length, take-at}
+use Rattle.rules.specs.declared.Link.{Link}
+use Rattle.rules.specs.declared.Verdict.{Verdict}
 use Rattle.rules.specs.Network.{linksOf, asesOf, arcsOf}
 use Rattle.rules.specs.Stable.{Line, Routing, own, due, tableOf}
-use Rattle.rules.specs.Judge.{entriesOf, entriesFor, routingOf, bestOffers}
+use Rattle.rules.specs.Judge.{Entry, entriesOf, wordsOf, entriesFor, routingOf, bestOffers}
 use Rattle.rules.proofs.StableFaces.{due-own, due-off}
 use Rattle.rules.proofs.LineLaws as lines
 use Rattle.offers.specs.Lines.{numberAt, lineAt, putLine, printed}
@@ -91,13 +93,18 @@ module _ {ws us : List ℕ} (n : Network ws us) where
         let whole = table-put (offersTo ls t (length us)) (drop (4 * length us) old) S us (distinct n) at h other in
         f ∙ ap (λ (b : List ℕ). putLine b at (own d)) (rw (← n .ases) at e) ∙ rw (due-own (arcsOf ls) d (says w)) at whole
 
-  -- Refusal 12 ---------------------------------------------------------------------------------------------------------------
+-- Refusal 12 ---------------------------------------------------------------------------------------------------------------
 
-  pub due-judged : {t : List ℕ} (w : Told us t) (d : ℕ) (old : List ℕ) {best : List ℕ} → best ≡ withDue (linksOf ws) d t us old
-      → differFrom 0 (entriesOf t) (entriesOf (take (4 * length us) best)) ≡ bestOffers (arcsOf (linksOf ws)) d (entriesOf t)
-  due-judged {t} w d old {best} e =
-      let S = due (arcsOf (linksOf ws)) d (says w) in
-      let front : take (4 * length us) best ≡ tableOf S us = ap (take (4 * length us)) e ∙ take-at (tableOf S us) _ (4 * length us) (table-length S us) in
-      ap (λ (b : List ℕ). differFrom 0 (entriesOf t) (entriesOf b)) front
-      ∙ ap (differFrom 0 (entriesOf t)) (table-entries S us)
-      ∙ differ-best (arcsOf (linksOf ws)) d (entriesOf t) us (told-entries w)
+pub due-judged : (ls : List Link) {us t : List ℕ} (w : Told us t) (d : ℕ) (old : List ℕ) {best : List ℕ} → best ≡ withDue ls d t us old
+    → differFrom 0 (entriesOf t) (entriesOf (take (4 * length us) best)) ≡ bestOffers (arcsOf ls) d (entriesOf t)
+due-judged ls {us} {t} w d old {best} e =
+    let S = due (arcsOf ls) d (says w) in
+    let front : take (4 * length us) best ≡ tableOf S us = ap (take (4 * length us)) e ∙ take-at (tableOf S us) _ (4 * length us) (table-length S us) in
+    ap (λ (b : List ℕ). differFrom 0 (entriesOf t) (entriesOf b)) front
+    ∙ ap (differFrom 0 (entriesOf t)) (table-entries S us)
+    ∙ differ-best (arcsOf ls) d (entriesOf t) us (told-entries w)
+
+-- of the words of lines it is that of the lines
+pub offers-told : (ls : List Link) (es : List Entry) {d e : ℕ} {t : List ℕ} {v : Verdict} → v ≡ bestOffers (arcsOf ls) d (entriesOf t) → d ≡ e
+    → t ≡ wordsOf es → v ≡ bestOffers (arcsOf ls) e es
+offers-told ls es {d} {e} {t} {v} p q r = rw (r, entries-words es, q) at p

@@ -24,7 +24,7 @@ mod lines;
 pub fn judge_sheet(words: &[u32], sheet: &[u8], room: &mut [u32]) -> Verdict
     ensures { λ r. ⌜ Judged baseLimits 511 (now (words .entry)) (now (sheet .entry)) (now (room .entry)) r (now (room .exit)) ⌝ }
 {
-    let verdict = verdict_of(words, sheet, room.len());
+    let verdict = verdict_of(words, sheet, LONGEST, room.len());
     let Verdict::Passes = verdict else {
         return verdict;
     };
@@ -32,16 +32,17 @@ pub fn judge_sheet(words: &[u32], sheet: &[u8], room: &mut [u32]) -> Verdict
     verdict
 }
 
-// What the judge says, given so many words of room.
-fn verdict_of(words: &[u32], sheet: &[u8], room: usize) -> Verdict
-    ensures { λ r. ⌜ r ≡ judgeReply baseLimits 511 (now (words .entry)) (now (sheet .entry)) room ⌝ }
+// What the judge says, where lengths stand up to a bound and so many words of room are lent.
+fn verdict_of(words: &[u32], sheet: &[u8], bound: u32, room: usize) -> Verdict
+    requires { ⌜ bound < 4294967295 ⌝ }
+    ensures { λ r. ⌜ r ≡ judgeReply baseLimits bound (now (words .entry)) (now (sheet .entry)) room ⌝ }
 {
     let limits = Limits::BASE;
     if limits.sheet < sheet.len() {
         return Verdict::Refused(Refusal::OverLimit);
     }
     match network::check_links(words) {
-        Checked::Accepted(n) => judge_network(words, n, sheet, LONGEST, room),
+        Checked::Accepted(n) => judge_network(words, n, sheet, bound, room),
         Checked::Refused(refusal) => Verdict::Refused(refusal),
     }
 }

@@ -18,7 +18,7 @@ use Rattle.rules.specs.Network.{asesOf, arcsOf}
 use Rattle.rules.specs.Stable.{Routing}
 use Rattle.rules.proofs.Faces.{len, Marked}
 use Rattle.rules.proofs.NetworkLaws.{ases-distinct}
-use Rattle.rules.proofs.ArcLaws.{arcs-ends, arcs-cost, arcs-length}
+use Rattle.rules.proofs.ArcLaws.{arcs-ends, arcs-positive, arcs-length}
 use Rattle.offers.specs.declared.Way.{Way}
 use Rattle.offers.specs.Lines.{pairAt}
 use Rattle.offers.specs.Ways.{placeIn, wayAt, arcAt, noArc}
@@ -119,11 +119,11 @@ module _ (ls : List Link) (ps : List ℕ) (placed : Placed ls ps) where
       pub near-next : f < 3 → Near S d f us t → Near S d (suc f) us u
       near-next l near =
           close-next (λ a. In a (arcsOf ls)) d S m f cap low (omega arith) (λ v. In v us) (λ a h. arcs-ends ls a h .1)
-          (λ a h. omega (arith, arcs-cost ls a h)) short (λ v. pairAt u (placeIn us v))
+          (arcs-positive ls) short (λ v. pairAt u (placeIn us v))
           (near-reached f low (omega arith) room (s .reached) near .1) (near-calm f u (s .calm)) l
 
       pub near-last : f ≡ 3 → Near S d f us t → (v : ℕ) → In v us → pairAt u (placeIn us v) ≡ S v .pair
       near-last e near =
           close-last (λ a. In a (arcsOf ls)) d S m f cap low (omega arith) (λ v. In v us) (λ a h. arcs-ends ls a h .1)
-          (λ a h. omega (arith, arcs-cost ls a h)) short (λ v. pairAt u (placeIn us v))
+          (arcs-positive ls) short (λ v. pairAt u (placeIn us v))
           (near-reached f low (omega arith) room (s .reached) near .1) (near-calm f u (s .calm)) e

@@ -20,7 +20,7 @@ use Rattle.rules.proofs.StableFaces.{due-off, stable-settled}
 use Rattle.rules.proofs.Exists.{stableOf-stable}
 use Rattle.rules.proofs.WalkLaws.{length-below}
 use Rattle.rules.proofs.NetworkLaws.{ases-distinct}
-use Rattle.rules.proofs.ArcLaws.{arcs-ends, arcs-cost}
+use Rattle.rules.proofs.ArcLaws.{arcs-ends, arcs-cost, arcs-positive}
 use Rattle.offers.specs.Lines.{numberAt, nextAt, pairAt, printed}
 use Rattle.offers.specs.Ways.{placeIn}
 use Rattle.offers.specs.Passes.{offersTo}
@@ -84,7 +84,7 @@ module _ (ws : List ℕ) (d : ℕ) (ps : List ℕ) where
 
   -- so the cap never bites
   short : (u : ℕ) → len S u ≤ length us - 1
-  short = length-below (λ a. In a (arcsOf ls)) (λ a m. omega (arith, arcs-cost ls a m)) d S settled us (arcs-ends ls) (arcs-cost ls)
+  short = length-below (λ a. In a (arcsOf ls)) (arcs-positive ls) d S settled us (arcs-ends ls) (arcs-cost ls)
 
   near-begun : {list old t : List ℕ} → take (length us) list ≡ us → Begun d list (length us) old t → Near S d 1 us t
   near-begun {list} {old} {t} listed b u is =

@@ -17,7 +17,12 @@ slice-aggregate-find-with : tie.Need-slice-aggregate-find-with
 slice-aggregate-find-with c = search needs
 
 find-with-requires : tie.Need-find-with-requires
-find-with-requires c κs = base-counted (c .before .before .before .before .before .before .before .before .args .words .now) (sym (c .before .before .before .before .before .check-links .ensures) ∙ c .before .before .before .checked .given .1) (omega arith)
+find-with-requires c κs =
+    let at-checked = c .before .before .before in
+    let at-check-links = at-checked .before .before in
+    let start = at-check-links .before .before .before in
+    let accepted = sym (at-check-links .check-links .ensures) ∙ at-checked .checked .given .1 in
+    base-counted (start .args .words .now) accepted (omega arith)
 
 enum-known-checked-2 : tie.Need-enum-known-checked-2
 enum-known-checked-2 c = search needs
@@ -26,10 +31,20 @@ same-length : tie.Need-same-length
 same-length c = search needs
 
 returns : tie.Need-returns
-returns c = entry-accepted baseLimits (c .before .before .before .before .before .before .before .before .before .before .before .before .args .words .now) (c .before .before .before .before .before .before .before .before .before .before .before .before .args .room .now) (sym (c .before .before .before .before .before .before .before .before .before .check-links .ensures) ∙ c .before .before .before .before .before .before .before .checked .given .1) (c .before .before .before .find-with .ensures)
+returns c =
+    let at-find-with = c .before .before .before in
+    let at-checked = at-find-with .before .before .before .before in
+    let at-check-links = at-checked .before .before in
+    let start = at-check-links .before .before .before in
+    let accepted = sym (at-check-links .check-links .ensures) ∙ at-checked .checked .given .1 in
+    entry-accepted baseLimits (start .args .words .now) (start .args .room .now) accepted (at-find-with .find-with .ensures)
 
 returns-2 : tie.Need-returns-2
-returns-2 c = entry-refused baseLimits (c .before .before .before .before .before .before .args .words .now) (c .before .before .before .before .before .before .args .room .now) (sym (c .before .before .before .check-links .ensures) ∙ c .before .checked2 .given .1)
+returns-2 c =
+    let at-check-links = c .before .before .before in
+    let start = at-check-links .before .before .before in
+    let refused = sym (at-check-links .check-links .ensures) ∙ c .before .checked2 .given .1 in
+    entry-refused baseLimits (start .args .words .now) (start .args .room .now) refused
 
 pub find-spec : {M : Type 1} → statement M
 find-spec =

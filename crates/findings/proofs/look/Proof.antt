@@ -13,7 +13,9 @@ is-joined-requires c κs = search needs
 
 has-ring-requires : tie.Need-has-ring-requires
 has-ring-requires c κs =
-    let h = started-kept (c .before .before .before .before .before .before .before .start .ensures) (c .before .before .before .is-joined .ensures .within) in
+    let at-is-joined = c .before .before .before in
+    let at-start = at-is-joined .before .before .before .before in
+    let h = started-kept (at-start .start .ensures) (at-is-joined .is-joined .ensures .within) in
     (h .laid, rings-start h)
 
 same-length : tie.Need-same-length

@@ -20,22 +20,31 @@ place-at-requires c κs = search needs
 add-is-set : tie.Need-add-is-set
 add-is-set c =
     let start = c .before .before .before .before .before .before .before .before .before in
-    omega (arith, c .before .place-at .ensures, teller-below (start .pre .1) (start .args .i) (start .pre .0), start .pre .1 .from-fits)
+    let below = teller-below (start .pre .1) (start .args .i) (start .pre .0) in
+    omega (arith, c .before .place-at .ensures, below, start .pre .1 .from-fits)
 
 is-set-requires : tie.Need-is-set-requires
 is-set-requires c κs =
     let start = c .before .before .before .before .before .before .before .before .before in
-    omega (arith, c .before .place-at .ensures, teller-below (start .pre .1) (start .args .i) (start .pre .0), start .pre .1 .from-fits)
+    let below = teller-below (start .pre .1) (start .args .i) (start .pre .0) in
+    omega (arith, c .before .place-at .ensures, below, start .pre .1 .from-fits)
 
 returns : tie.Need-returns
 returns c =
-    let a = c .before .before .before .before .before .before .before .before .before .before .args in
-    news-flag (a .words .now) (a .room .now) (a .pass) (a .i) (c .before .before .before .before .before .before .before .link-at .ensures) (c .before .before .before .before .if1 .taken) (c .before .before .place-at .ensures) (c .is-set .ensures)
+    let at-place-at = c .before .before in
+    let at-if1 = at-place-at .before .before in
+    let at-link-at = at-if1 .before .before .before in
+    let start = at-link-at .before .before .before in
+    let a = start .args in
+    news-flag (a .words .now) (a .room .now) (a .pass) (a .i) (at-link-at .link-at .ensures) (at-if1 .if1 .taken)
+    (at-place-at .place-at .ensures) (c .is-set .ensures)
 
 returns-2 : tie.Need-returns-2
 returns-2 c =
-    let a = c .before .before .before .before .before .before .args in
-    news-none (a .words .now) (a .room .now) (a .pass) (a .i) (c .before .before .before .link-at .ensures) (c .if1 .left)
+    let at-link-at = c .before .before .before in
+    let start = at-link-at .before .before .before in
+    let a = start .args in
+    news-none (a .words .now) (a .room .now) (a .pass) (a .i) (at-link-at .link-at .ensures) (c .if1 .left)
 
 pub has-news-spec : {M : Type 1} → statement M
 has-news-spec =

@@ -23,21 +23,30 @@ place-at-requires c κs = search needs
 
 add-put : tie.Need-add-put
 add-put c =
-    let start = c .before .before .before .before .before .before .before .before .before .before in
-    omega (arith, c .before .before .place-at .ensures, hearer-below (start .pre .1) (start .args .i) (start .pre .0), start .pre .1 .to-fits)
+    let at-place-at = c .before .before in
+    let start = at-place-at .before .before .before .before .before .before .before .before in
+    let below = hearer-below (start .pre .1) (start .args .i) (start .pre .0) in
+    omega (arith, at-place-at .place-at .ensures, below, start .pre .1 .to-fits)
 
 put-requires : tie.Need-put-requires
 put-requires c κs =
-    let start = c .before .before .before .before .before .before .before .before .before .before in
-    omega (arith, c .before .before .place-at .ensures, hearer-below (start .pre .1) (start .args .i) (start .pre .0), start .pre .1 .to-fits)
+    let at-place-at = c .before .before in
+    let start = at-place-at .before .before .before .before .before .before .before .before in
+    let below = hearer-below (start .pre .1) (start .args .i) (start .pre .0) in
+    omega (arith, at-place-at .place-at .ensures, below, start .pre .1 .to-fits)
 
 same-length : tie.Need-same-length
 same-length c = search needs
 
 returns : tie.Need-returns
 returns c =
-    let start = c .before .before .before .before .before .before .before .before .before .before .before .before .before in
-    told-put (start .pre .1) (start .args .i) (start .pre .0) (sym (c .before .before .before .before .before .before .before .before .before .has-news .ensures) ∙ c .before .before .before .before .before .before .before .before .if1 .taken) (c .before .before .before .before .before .place-at .ensures) (c .before .before .put .ensures)
+    let at-put = c .before .before in
+    let at-place-at = at-put .before .before .before in
+    let at-if1 = at-place-at .before .before .before in
+    let at-has-news = at-if1 .before in
+    let start = at-has-news .before .before .before .before in
+    told-put (start .pre .1) (start .args .i) (start .pre .0) (sym (at-has-news .has-news .ensures) ∙ at-if1 .if1 .taken)
+    (at-place-at .place-at .ensures) (at-put .put .ensures)
 
 same-length-2 : tie.Need-same-length-2
 same-length-2 c = search needs

@@ -14,7 +14,10 @@ same-length : tie.Need-same-length
 same-length c = search needs
 
 returns : tie.Need-returns
-returns c = ring-found (c .before .before .before .before .before .before .before .before .pre .0 .ases) (c .before .before .before .before .before .before .before .before .pre .1) (c .before .before .before .before .strip .ensures) (c .any-set .result) (c .any-set .ensures)
+returns c =
+    let at-strip = c .before .before .before .before in
+    let start = at-strip .before .before .before .before in
+    ring-found (start .pre .0 .ases) (start .pre .1) (at-strip .strip .ensures) (c .any-set .result) (c .any-set .ensures)
 
 pub has-ring-spec : {M : Type 1} → statement M
 has-ring-spec = tie.close (tie.spec strip-requires any-set-requires same-length returns)

@@ -3,7 +3,8 @@ use Prim.Native.Nat.{_-_, _≤_}
 use mathlib.Core.Path.{_≡_}
 use native.Mathlib.Omega.{arith}
 use Rattle.findings.specs.Peelings.{Peeled}
-use Rattle.findings.proofs.PeelLaws.{sized-kept, peeled-none, peeled-more}
+use Rattle.findings.proofs.RoomLaws.{sized-kept}
+use Rattle.findings.proofs.PeelLaws.{peeled-none, peeled-more}
 use Rattle.findings.proofs.ring.peel_all.Statement.{statement}
 use Rattle.findings.proofs.ring.peel_all.Tie as tie
 
@@ -17,7 +18,10 @@ loop-holds : tie.Need-loop-holds Inv-loop μ-loop
 loop-holds c = (omega arith, peeled-none _ _)
 
 peel-at-requires : tie.Need-peel-at-requires Inv-loop μ-loop
-peel-at-requires c κs = (c .before .loop-test .taken, sized-kept (c .before .before .before .before .pre) (c .before .before .loop .inv .1 .within .long))
+peel-at-requires c κs =
+    let at-loop = c .before .before in
+    let start = at-loop .before .before in
+    (c .before .loop-test .taken, sized-kept (start .pre) (at-loop .loop .inv .1 .within .long))
 
 add-p : tie.Need-add-p Inv-loop μ-loop
 add-p c = omega arith
@@ -27,15 +31,21 @@ loop-less c = omega arith
 
 loop-again : tie.Need-loop-again Inv-loop μ-loop
 loop-again c =
-    let l = c .before .before .before .before .before .loop in
-    (omega arith, peeled-more (l .any) (c .before .before .peel-at .result) (c .before .before .before .before .before .before .before .pre) (l .p) (c .before .before .before .before .loop-test .taken) (l .inv .1) (c .before .before .peel-at .ensures))
+    let at-peel-at = c .before .before in
+    let at-loop-test = at-peel-at .before .before in
+    let at-loop = at-loop-test .before in
+    let start = at-loop .before .before in
+    let l = at-loop .loop in
+    let peel = at-peel-at .peel-at in
+    (omega arith, peeled-more (l .any) (peel .result) (start .pre) (l .p) (at-loop-test .loop-test .taken) (l .inv .1) (peel .ensures))
 
 same-length : tie.Need-same-length Inv-loop μ-loop
 same-length c = c .before .loop .inv .1 .within .long
 
 returns : tie.Need-returns Inv-loop μ-loop
 returns c =
-    let all : c .before .loop .p ≡ c .before .before .before .args .parts .ases = omega arith in
+    let start = c .before .before .before in
+    let all : c .before .loop .p ≡ start .args .parts .ases = omega arith in
     rw all at (c .before .loop .inv .1)
 
 pub peel-all-spec : {M : Type 1} → statement M

@@ -31,7 +31,14 @@ same-length-2 c = search needs
 
 returns-2 : tie.Need-returns-2
 returns-2 c =
-    (sym (c .before .before .before .before .before .before .before .before .before .is-set .ensures) ∙ c .before .before .before .before .before .before .before .before .if1 .taken, sym (c .before .before .before .before .before .is-set2 .ensures) ∙ c .before .before .before .before .if2 .left, c .before .before .put .ensures)
+    let at-put = c .before .before in
+    let at-if2 = at-put .before .before in
+    let at-is-set2 = at-if2 .before in
+    let at-if1 = at-is-set2 .before .before .before in
+    let at-is-set = at-if1 .before in
+    let left = sym (at-is-set .is-set .ensures) ∙ at-if1 .if1 .taken in
+    let unmet = sym (at-is-set2 .is-set2 .ensures) ∙ at-if2 .if2 .left in
+    (left, unmet, at-put .put .ensures)
 
 same-length-3 : tie.Need-same-length-3
 same-length-3 c = search needs

@@ -8,7 +8,8 @@ use Rattle.findings.proofs.ring.strip.Statement.{statement}
 use Rattle.findings.proofs.ring.strip.Tie as tie
 
 abbrev Inv-loop : tie.InvT-loop
-Inv-loop words room₀ s room = Laid words room s × (length room ≡ length room₀) × (RingsLeft words s room₀ → RingsLeft words s room)
+Inv-loop words room₀ s room =
+    Laid words room s × (length room ≡ length room₀) × (RingsLeft words s room₀ → RingsLeft words s room)
 
 abbrev μ-loop : tie.MeasureT-loop
 μ-loop words room₀ s room = onesIn room (s .left) (s .ases)
@@ -24,17 +25,24 @@ loop-less c = c .before .before .before .peel .ensures .fewer (c .if1 .taken)
 
 loop-again : tie.Need-loop-again Inv-loop μ-loop
 loop-again c =
-    let o = c .before .before .before .peel .ensures in
-    let i = c .before .before .before .before .before .loop .inv in
+    let at-peel = c .before .before .before in
+    let at-loop = at-peel .before .before in
+    let o = at-peel .peel .ensures in
+    let i = at-loop .loop .inv in
     (round-laid o (i .0), o .within .long ∙ i .1, λ h. rings-kept o (i .2 h))
 
 same-length : tie.Need-same-length Inv-loop μ-loop
-same-length c = c .before .before .before .peel .ensures .within .long ∙ c .before .before .before .before .before .loop .inv .1
+same-length c =
+    let at-peel = c .before .before .before in
+    let at-loop = at-peel .before .before in
+    at-peel .peel .ensures .within .long ∙ at-loop .loop .inv .1
 
 returns : tie.Need-returns Inv-loop μ-loop
 returns c =
-    let o = c .before .before .before .peel .ensures in
-    record { rings = λ h. rings-kept o (c .before .before .before .before .before .loop .inv .2 h); keeps = quiet-keeps o (c .if1 .left) }
+    let at-peel = c .before .before .before in
+    let at-loop = at-peel .before .before in
+    let o = at-peel .peel .ensures in
+    record { rings = λ h. rings-kept o (at-loop .loop .inv .2 h); keeps = quiet-keeps o (c .if1 .left) }
 
 pub strip-spec : {M : Type 1} → statement M
 strip-spec =

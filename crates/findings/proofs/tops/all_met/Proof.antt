@@ -22,7 +22,11 @@ is-met-requires : tie.Need-is-met-requires Inv-loop μ-loop
 is-met-requires c κs = (c .loop-test .taken, c .before .before .before .pre)
 
 returns : tie.Need-returns Inv-loop μ-loop
-returns c = (c .before .before .before .loop .k, c .before .before .loop-test .taken, sym (c .before .is-met .ensures) ∙ not-true (c .before .is-met .result) (c .if1 .taken))
+returns c =
+    let at-loop-test = c .before .before in
+    let at-loop = at-loop-test .before in
+    let unmet = not-true (c .before .is-met .result) (c .if1 .taken) in
+    (at-loop .loop .k, at-loop-test .loop-test .taken, sym (c .before .is-met .ensures) ∙ unmet)
 
 add-k : tie.Need-add-k Inv-loop μ-loop
 add-k c = omega arith
@@ -31,7 +35,10 @@ loop-less : tie.Need-loop-less Inv-loop μ-loop
 loop-less c = omega arith
 
 loop-again : tie.Need-loop-again Inv-loop μ-loop
-loop-again c = (omega arith, below-more _ _ (c .before .before .before .loop .inv .1) (sym (c .before .is-met .ensures) ∙ not-false (c .before .is-met .result) (c .if1 .left)))
+loop-again c =
+    let at-loop = c .before .before .before in
+    let met = not-false (c .before .is-met .result) (c .if1 .left) in
+    (omega arith, below-more _ _ (at-loop .loop .inv .1) (sym (c .before .is-met .ensures) ∙ met))
 
 returns-2 : tie.Need-returns-2 Inv-loop μ-loop
 returns-2 c = (λ k l. c .before .loop .inv .1 k (omega arith))

@@ -27,8 +27,13 @@ same-length c = search needs
 
 returns : tie.Need-returns
 returns c =
-    let pre = c .before .before .before .before .before .before .before .before .before .before .before .before .before .before .before .before .pre in
-    chosen-one (pre .0) (pre .1) (pre .2) (c .before .before .before .before .before .before .before .before .before .before .before .before .fill .ensures) (c .before .before .before .before .before .before .before .put .ensures) (c .before .before .put2 .ensures)
+    let at-put2 = c .before .before in
+    let at-put = at-put2 .before .before .before .before .before in
+    let at-fill = at-put .before .before .before .before .before in
+    let start = at-fill .before .before .before .before in
+    let pre = start .pre in
+    chosen-one (start .args .parts) (pre .0) (pre .1) (pre .2)
+    (at-fill .fill .ensures) (at-put .put .ensures) (at-put2 .put2 .ensures)
 
 pub choose-spec : {M : Type 1} → statement M
 choose-spec =

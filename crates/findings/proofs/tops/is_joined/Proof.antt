@@ -5,15 +5,19 @@ use mathlib.Core.Bool.{true}
 use native.Mathlib.Omega.{arith}
 use borrow.Author.Count.{below-none, below-more}
 use borrow.Author.Tests.{not-true, not-false}
-use Rattle.findings.specs.Rooms.{Within}
+use lib.ListN.{getD}
+use Rattle.rules.specs.Network.{linksOf}
+use Rattle.findings.specs.Rooms.{asesIn, Within}
+use Rattle.findings.specs.Joinings.{meets}
 use Rattle.findings.proofs.RoomLaws.{within-same, within-more}
 use Rattle.findings.proofs.TopLaws.{started-kept}
-use Rattle.findings.proofs.MeetLaws.{meets, joining-yes, joining-not}
+use Rattle.findings.proofs.MeetLaws.{joining-yes, joining-not}
 use Rattle.findings.proofs.tops.is_joined.Statement.{statement}
 use Rattle.findings.proofs.tops.is_joined.Tie as tie
 
 abbrev Inv-loop : tie.InvT-loop
-Inv-loop words room₀ s n p₀ room p = (p ≤ n) × Within (s .chosen) (2 * s .ases) room₀ room × ((k : ℕ) → k < p → meets words k ≡ true)
+Inv-loop words room₀ s n p₀ room p =
+    (p ≤ n) × Within (s .chosen) (2 * s .ases) room₀ room × ((k : ℕ) → k < p → meets (linksOf words) (getD (asesIn words) k 0) ≡ true)
 
 abbrev μ-loop : tie.MeasureT-loop
 μ-loop words room₀ s n p₀ room p = n - p
@@ -22,13 +26,25 @@ loop-holds : tie.Need-loop-holds Inv-loop μ-loop
 loop-holds c = (omega arith, within-same _ _ _, below-none _)
 
 meets-tops-requires : tie.Need-meets-tops-requires Inv-loop μ-loop
-meets-tops-requires c κs = (c .before .loop-test .taken, started-kept (c .before .before .before .before .before .pre) (c .before .before .loop .inv .1))
+meets-tops-requires c κs =
+    let at-loop = c .before .before in
+    let start = at-loop .before .before .before in
+    (c .before .loop-test .taken, started-kept (start .pre) (at-loop .loop .inv .1))
 
 same-length : tie.Need-same-length Inv-loop μ-loop
-same-length c = c .before .before .before .meets-tops .ensures .within .long ∙ c .before .before .before .before .before .before .loop .inv .1 .long
+same-length c =
+    let at-meets-tops = c .before .before .before in
+    let at-loop = at-meets-tops .before .before .before in
+    at-meets-tops .meets-tops .ensures .within .long ∙ at-loop .loop .inv .1 .long
 
 returns : tie.Need-returns Inv-loop μ-loop
-returns c = joining-not (c .before .before .before .before .before .before .before .before .before .pre) (c .before .before .before .before .before .before .loop .inv .1) (c .before .before .before .before .before .loop-test .taken) (c .before .before .before .meets-tops .ensures) (not-true (c .before .before .before .meets-tops .result) (c .if1 .taken))
+returns c =
+    let at-meets-tops = c .before .before .before in
+    let at-loop-test = at-meets-tops .before .before in
+    let at-loop = at-loop-test .before in
+    let start = at-loop .before .before .before in
+    let m = at-meets-tops .meets-tops in
+    joining-not (start .pre) (at-loop .loop .inv .1) (at-loop-test .loop-test .taken) (m .ensures) (not-true (m .result) (c .if1 .taken))
 
 add-p : tie.Need-add-p Inv-loop μ-loop
 add-p c = omega arith
@@ -38,15 +54,20 @@ loop-less c = omega arith
 
 loop-again : tie.Need-loop-again Inv-loop μ-loop
 loop-again c =
-    let m = c .before .before .before .meets-tops in
-    let i = c .before .before .before .before .before .before .loop .inv in
-    (omega arith, within-more (i .1) (m .ensures .within), below-more _ _ (i .2) (sym (m .ensures .reply) ∙ not-false (m .result) (c .if1 .left)))
+    let at-meets-tops = c .before .before .before in
+    let at-loop = at-meets-tops .before .before .before in
+    let m = at-meets-tops .meets-tops in
+    let i = at-loop .loop .inv in
+    let all = below-more _ _ (i .2) (sym (m .ensures .reply) ∙ not-false (m .result) (c .if1 .left)) in
+    (omega arith, within-more (i .1) (m .ensures .within), all)
 
 same-length-2 : tie.Need-same-length-2 Inv-loop μ-loop
 same-length-2 c = c .before .loop .inv .1 .long
 
 returns-2 : tie.Need-returns-2 Inv-loop μ-loop
-returns-2 c = joining-yes (c .before .before .before .before .pre) (c .before .loop .inv .1) (c .loop-test .left) (c .before .loop .inv .2)
+returns-2 c =
+    let start = c .before .before .before .before in
+    joining-yes (start .pre) (c .before .loop .inv .1) (c .loop-test .left) (c .before .loop .inv .2)
 
 pub is-joined-spec : {M : Type 1} → statement M
 is-joined-spec =

@@ -26,8 +26,10 @@ choose-requires c κs = search needs
 
 meet-peers-requires : tie.Need-meet-peers-requires
 meet-peers-requires c κs =
-    let h = c .before .before .before .before .before .before .before .before .before .before .before .pre .1 .laid in
-    laid-kept h (omega (arith, h .chosen, h .served)) (c .before .before .before .choose .ensures .within)
+    let at-choose = c .before .before .before in
+    let start = at-choose .before .before .before .before .before .before .before .before in
+    let h = start .pre .1 .laid in
+    laid-kept h (omega (arith, h .chosen, h .served)) (at-choose .choose .ensures .within)
 
 all-met-requires : tie.Need-all-met-requires
 all-met-requires c κs = search needs
@@ -37,8 +39,14 @@ same-length-2 c = search needs
 
 returns-2 : tie.Need-returns-2
 returns-2 c =
-    let start = c .before .before .before .before .before .before .before .before .before .before .before .before .before .before .before .before in
-    meeting-top (start .pre .1) (start .args .p) (start .pre .0) (c .before .before .before .before .before .before .before .before .choose .ensures) (c .before .before .before .before .meet-peers .ensures) (sym (c .before .before .before .before .before .before .before .before .before .before .before .is-set .ensures) ∙ c .before .before .before .before .before .before .before .before .before .before .if1 .left) (c .all-met .result) (c .all-met .ensures)
+    let at-meet-peers = c .before .before .before .before in
+    let at-choose = at-meet-peers .before .before .before .before in
+    let at-if1 = at-choose .before .before in
+    let at-is-set = at-if1 .before in
+    let start = at-is-set .before .before .before .before .before in
+    let top = sym (at-is-set .is-set .ensures) ∙ at-if1 .if1 .left in
+    meeting-top (start .pre .1) (start .args .p) (start .pre .0) (at-choose .choose .ensures) (at-meet-peers .meet-peers .ensures) top
+    (c .all-met .result) (c .all-met .ensures)
 
 pub meets-tops-spec : {M : Type 1} → statement M
 meets-tops-spec =

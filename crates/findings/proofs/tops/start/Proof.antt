@@ -11,13 +11,22 @@ fill-requires-2 : tie.Need-fill-requires-2
 fill-requires-2 c κs = search needs
 
 tell-requires : tie.Need-tell-requires
-tell-requires c κs = down-telling (c .before .before .before .before .before .before .before .before .before .before .before .pre) (c .before .before .before .before .before .before .before .fill .ensures) (c .before .before .before .fill2 .ensures)
+tell-requires c κs =
+    let at-fill2 = c .before .before .before in
+    let at-fill = at-fill2 .before .before .before .before in
+    let start = at-fill .before .before .before .before in
+    down-telling (start .pre) (at-fill .fill .ensures) (at-fill2 .fill2 .ensures)
 
 same-length : tie.Need-same-length
 same-length c = search needs
 
 returns : tie.Need-returns
-returns c = started (c .before .before .before .before .before .before .before .before .before .before .before .before .before .before .pre) (c .before .before .before .before .before .before .before .before .before .before .fill .ensures) (c .before .before .before .before .before .before .fill2 .ensures) (c .before .before .tell .ensures)
+returns c =
+    let at-tell = c .before .before in
+    let at-fill2 = at-tell .before .before .before .before in
+    let at-fill = at-fill2 .before .before .before .before in
+    let start = at-fill .before .before .before .before in
+    started (start .pre) (at-fill .fill .ensures) (at-fill2 .fill2 .ensures) (at-tell .tell .ensures)
 
 pub start-spec : {M : Type 1} → statement M
 start-spec = tie.close (tie.spec fill-requires fill-requires-2 tell-requires same-length returns)

@@ -28,7 +28,7 @@ first-difference-requires c κs = simp length-take (omega (arith, told-length (c
 returns : tie.Need-returns
 returns c =
     let s = c .before .before .before .before .before .before .before .before in
-    c .first-difference .ensures ∙ due-judged (s .pre .0) (s .pre .1) _ _ (c .before .before .before .put-due .ensures)
+    c .first-difference .ensures ∙ due-judged _ (s .pre .1) _ _ (c .before .before .before .put-due .ensures)
 
 pub judge-offers-spec : {M : Type 1} → statement M
 judge-offers-spec =

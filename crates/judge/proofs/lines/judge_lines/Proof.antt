@@ -1,20 +1,20 @@
 -- `judge_lines`: the place of the destination, the lines that stand, and the offers to them are 7, 11 and 12 in order (`lines-in-order`).
 use Prim.Native.Nat.{_*_, _<_}
-use mathlib.Core.Path.{_≡_, refl, sym, _∙_, ap, ap₂}
+use mathlib.Core.Path.{_≡_, refl, sym, _∙_}
 use native.Mathlib.Omega.{arith}
 use lib.ListN.{length, getD, take, length-take}
 use lib.Seq.{take-length}
 use Rattle.rules.specs.declared.Verdict.the-variants.{Passes}
-use Rattle.rules.specs.Network.{linksOf, arcsOf}
+use Rattle.rules.specs.Network.{linksOf}
 use Rattle.rules.specs.Entry.{destinationFault}
-use Rattle.rules.specs.Judge.{entriesOf, wordsOf, standing, bestOffers}
+use Rattle.rules.specs.Judge.{wordsOf, standing}
 use Rattle.sheet.specs.Form.{destinationOf, linesOf}
 use Rattle.sheet.proofs.VerdictLaws.{stopped}
-use Rattle.sheet.proofs.EntryLaws.{entries-words}
 use Rattle.sheet.proofs.FormLaws.{formed}
 use Rattle.sheet.proofs.StandingLaws.{destination-there, destination-none}
 use Rattle.judge.proofs.OrderLaws.{lines-in-order}
 use Rattle.judge.proofs.NetworkLaws.{ascending, distinct}
+use Rattle.judge.proofs.DueLaws.{offers-told}
 use Rattle.judge.proofs.StandLaws.{standing-told, all-read}
 use borrow.Author.Needs.{needs}
 use Rattle.judge.proofs.lines.judge_lines.Statement.{statement}
@@ -109,9 +109,7 @@ returns-3 c =
     let s = c .before .before .before .before .before .before .before .before .before .before .before .before .before .before .before in
     let A = s .args in
     let e = c .before .before in
-    let net = arcsOf (linksOf (A .words .now)) in
-    let lines = ap entriesOf (told e) ∙ entries-words (linesOf (A .sheet .now)) in
-    let best = c .judge-offers .ensures ∙ ap₂ (bestOffers net) (placed (e .before .before .before) .1) lines in
+    let best = offers-told (linksOf (A .words .now)) (linesOf (A .sheet .now)) (c .judge-offers .ensures) (placed (e .before .before .before) .1) (told e) in
     lines-in-order (A .bound) _ (A .ases .now) (A .sheet .now) _ _ _ (s .pre .0 .ases) (named (e .before .before .before)) (sym (stood e)) best
 
 pub judge-lines-spec : {M : Type 1} → statement M

@@ -5,8 +5,8 @@ use mathlib.Core.Bool.{false}
 use native.Mathlib.Omega.{arith}
 use borrow.Author.Count.{below-none, below-more}
 use Rattle.findings.specs.Rooms.{flagAt}
-use Rattle.findings.proofs.ring.any_set.Statement.{statement}
-use Rattle.findings.proofs.ring.any_set.Tie as tie
+use Rattle.findings.proofs.cells.any_set.Statement.{statement}
+use Rattle.findings.proofs.cells.any_set.Tie as tie
 
 abbrev Inv-loop : tie.InvT-loop
 Inv-loop room at n k₀ k = (k ≤ n) × ((j : ℕ) → j < k → flagAt room (at + j) ≡ false)
@@ -24,7 +24,10 @@ is-set-requires : tie.Need-is-set-requires Inv-loop μ-loop
 is-set-requires c κs = omega arith
 
 returns : tie.Need-returns Inv-loop μ-loop
-returns c = (c .before .before .before .loop .k, c .before .before .loop-test .taken, sym (c .before .is-set .ensures) ∙ c .if1 .taken)
+returns c =
+    let at-loop-test = c .before .before in
+    let at-loop = at-loop-test .before in
+    (at-loop .loop .k, at-loop-test .loop-test .taken, sym (c .before .is-set .ensures) ∙ c .if1 .taken)
 
 add-k : tie.Need-add-k Inv-loop μ-loop
 add-k c = omega arith
@@ -33,7 +36,9 @@ loop-less : tie.Need-loop-less Inv-loop μ-loop
 loop-less c = omega arith
 
 loop-again : tie.Need-loop-again Inv-loop μ-loop
-loop-again c = (omega arith, below-more _ _ (c .before .before .before .loop .inv .1) (sym (c .before .is-set .ensures) ∙ c .if1 .left))
+loop-again c =
+    let at-loop = c .before .before .before in
+    (omega arith, below-more _ _ (at-loop .loop .inv .1) (sym (c .before .is-set .ensures) ∙ c .if1 .left))
 
 returns-2 : tie.Need-returns-2 Inv-loop μ-loop
 returns-2 c = (λ k l. c .before .loop .inv .1 k (omega arith))
