@@ -79,6 +79,35 @@ fn say_findings(words: &[u32]) {
     say(b"\n");
 }
 
+// What the judge says of a sheet of 65 bytes for network A.
+fn say_judged(sheet: &[u8; 65]) {
+    let mut room = [0u32; 80];
+    match judge::judge_sheet(&NETWORK_A, sheet, &mut room) {
+        Verdict::Passes => say(b" passes"),
+        Verdict::Refused(why) => {
+            say(b" refused");
+            say_number(why.number());
+            say(b" ");
+            io::print_decimal(STDOUT_FILENO, why.place() as u64);
+        }
+    }
+    say(b"\n");
+}
+
+// The sheet of network A to 40, and the same with another length in 50's line.
+fn say_sheets() {
+    let mut table = [0u32; 20];
+    let mut room = [0u32; 80];
+    let mut bytes = [0u8; 65];
+    table::stable_table(&NETWORK_A, 40, &mut table, &mut room);
+    sheet::write_sheet(&NETWORK_A, 40, &table, &mut bytes);
+    say(b"P1 sheet");
+    say_judged(&bytes);
+    bytes[60] = 2;
+    say(b"P10");
+    say_judged(&bytes);
+}
+
 fn main() {
     say(b"P1");
     say_table(&NETWORK_A, 40);
@@ -97,4 +126,5 @@ fn main() {
     say_findings(&NETWORK_A);
     say(b"P9");
     say_findings(&RING_OF_THREE);
+    say_sheets();
 }
