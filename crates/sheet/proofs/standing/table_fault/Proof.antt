@@ -30,6 +30,9 @@ slice-aggregate-lines-fault-2 c = simp length-take (omega arith)
 lines-fault-requires : tie.Need-lines-fault-requires
 lines-fault-requires c κs = simp length-take (omega arith)
 
+abbrev start : tie.After-lines-fault → tie.Start
+start c = c .before .before .before .before .before .before
+
 whole : (c : tie.After-lines-fault)
     → (let k = c .before .before .before .shorter .result in
     let A = c .before .before .before .before .before .before .args in
@@ -54,10 +57,16 @@ mul-if1 : tie.Need-mul-if1
 mul-if1 c = search needs
 
 returns-2 : tie.Need-returns-2
-returns-2 c = rw (c .before .enum-told .given .1, eq-eqb _ _ (c .if1 .taken)) at (whole (c .before .before .before))
+returns-2 c =
+    let A = start (c .before .before .before) .args in
+    let same = eq-eqb (length (A .table .now)) (4 * length (A .ases .now)) (c .if1 .taken) in
+    rw (c .before .enum-told .given .1, same) at (whole (c .before .before .before))
 
 returns-3 : tie.Need-returns-3
-returns-3 c = rw (c .before .enum-told .given .1, ne-eqb _ _ (c .if1 .left)) at (whole (c .before .before .before))
+returns-3 c =
+    let A = start (c .before .before .before) .args in
+    let differ = ne-eqb (length (A .table .now)) (4 * length (A .ases .now)) (c .if1 .left) in
+    rw (c .before .enum-told .given .1, differ) at (whole (c .before .before .before))
 
 pub table-fault-spec : {M : Type 1} → statement M
 table-fault-spec =
