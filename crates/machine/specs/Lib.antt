@@ -1,2 +1,6 @@
 pub mod Entries
 pub mod Room
+pub mod Steps
+pub mod Runs
+pub mod Start
+pub mod Answers

@@ -81,7 +81,7 @@ short-more b c s h =
     more nothing k = tt
     more (waits p) k = omega arith
 
-by-changed : {A : Type 0} (P : A → Type 0) (f : ℕ → A) (k : ℕ) (x : A) → P x → (i : ℕ) → P (f i) → P (changed f k x i)
+pub by-changed : {A : Type 0} (P : A → Type 0) (f : ℕ → A) (k : ℕ) (x : A) → P x → (i : ℕ) → P (f i) → P (changed f k x i)
 unfolding changed
 by-changed P f k x h i g = by-cond P (eqb i k) x (f i) (λ e. h) (λ e. g)
 
@@ -100,7 +100,7 @@ fresh-short net d b =
     }
 
 module _ (net : List Arc) (d : ℕ) (c : ℕ) (most : (a : Arc) → In a net → a .cost ≤ c) where
-  best-short : (b : ℕ) (told : Arc → TypeLength) → ((a : Arc) → told a .length ≤ b) → (u : ℕ) → best told u net .pair .length ≤ b + c
+  pub best-short : (b : ℕ) (told : Arc → TypeLength) → ((a : Arc) → told a .length ≤ b) → (u : ℕ) → best told u net .pair .length ≤ b + c
   unfolding none
   best-short b told h u = go (best-source (best-is told u net))
     where

@@ -75,13 +75,13 @@ module _ (net : List Arc) (unique : Directed net) (u : ℕ) (p : TypeLength) (w 
   abbrev out : Arc → Bool
   out b = eqb (b .direction) (a .direction) && eqb (b .neighbour) u
 
-  send-own : a .neighbour ≡ u → send net u p w (a .direction) ≡ waits p
+  pub send-own : a .neighbour ≡ u → send net u p w (a .direction) ≡ waits p
   unfolding send outOf
   send-own e =
       let t = and-yes _ _ (eq-eqb (a .direction) (a .direction) refl) (eq-eqb (a .neighbour) u e) in
       cc (anyOf-true out net a m t)
 
-  send-other : a .neighbour ≢ u → send net u p w (a .direction) ≡ w (a .direction)
+  pub send-other : a .neighbour ≢ u → send net u p w (a .direction) ≡ w (a .direction)
   unfolding send outOf
   send-other ne = by-cond (λ (x : Waiting). x ≡ w (a .direction)) (anyOf out net) _ _ (λ t. absurd (ne (same t))) (λ t. refl)
     where
@@ -93,7 +93,7 @@ module _ (net : List Arc) (unique : Directed net) (u : ℕ) (p : TypeLength) (w 
           ap (λ (c : Arc). c .neighbour) (unique a b m n (sym f)) ∙ g
 
 -- the receiver over an arc's direction is its hearer
-receiver-is : (net : List Arc) → Directed net → (a : Arc) → In a net → receiver net (a .direction) ≡ a .hearer
+pub receiver-is : (net : List Arc) → Directed net → (a : Arc) → In a net → receiver net (a .direction) ≡ a .hearer
 unfolding receiver
 receiver-is (b ∷ net) unique a m =
     by-cond (λ (x : ℕ). x ≡ a .hearer) (eqb (b .direction) (a .direction)) (b .hearer) (receiver net (a .direction))

@@ -1,0 +1,137 @@
+-- The election over what the room holds. What is heard over direction k is what arc k offers with the pair held there; the loop goes
+-- along the arcs, and what is left of the election from there is the whole.
+use Prim.Native.Nat.{ℕ, _+_, _*_, _≤_, _<_}
+use mathlib.Core.Path.{_≡_, refl, sym, _∙_, ap}
+use mathlib.Core.Logic.{_≢_}
+use mathlib.Core.List.{List, _∷_}
+use native.Mathlib.Omega.{arith}
+use native.Mathlib.Numerals.{add-one}
+use lib.ListN.{length, drop, drop-of-length-le}
+use lib.Seq.{drop-cons}
+use Rattle.rules.specs.declared.TypeLength.{TypeLength}
+use Rattle.rules.specs.Offers.{Arc, Offer, none, offer, choose, heard, elect, best}
+use Rattle.rules.specs.Network.{linksOf, asesOf}
+use Rattle.rules.specs.Lists.{In}
+use Rattle.rules.specs.Pairs.{unreachableOf}
+use Rattle.rules.proofs.Faces.{Le}
+use Rattle.rules.proofs.OfferLaws.{heard-own, heard-other, choose-keeps, choose-le, le-trans}
+use Rattle.rules.proofs.NetworkLaws.{ases-distinct}
+use Rattle.rules.proofs.ArcLaws.{arcs-length, arcs-rank}
+use Rattle.offers.specs.declared.Way.{Way}
+use Rattle.offers.specs.declared.Offered.{Offered}
+use Rattle.offers.specs.Lines.{numberAt}
+use Rattle.offers.specs.Ways.{placeIn, noArc, arcAt, wayAt}
+use Rattle.offers.specs.Passes.{asOffer}
+use Rattle.offers.specs.Steps.{offerOf, Fair, OverWay, Considered}
+use Rattle.offers.proofs.PlaceLaws.{place-at}
+use Rattle.offers.proofs.WayLaws.{arc-in, arc-direction, WayArc, way-arc}
+use Rattle.offers.proofs.ConsiderLaws.{fair-le, le-fair}
+use Rattle.machine.specs.Room.{pairOf, heldAt, netOf, asesIn, asAt, Laid}
+use Rattle.machine.specs.Steps.{heldOver, Hearing, Heard}
+
+-- different places have different ASes
+pub as-place : (ws : List ℕ) (i j : ℕ) → i < asesIn ws → j < asesIn ws → asAt ws i ≡ asAt ws j → i ≡ j
+as-place ws i j p q e =
+    let us = asesOf (linksOf ws) in
+    let d = ases-distinct (linksOf ws) in
+    sym (place-at us d i p) ∙ ap (placeIn us) e ∙ place-at us d j q
+
+-- direction k of what is laid out is arc k
+pub laid-way : {ws : List ℕ} {m : ℕ} {t r : List ℕ} → Laid ws m t r → (k : ℕ) → k < 2 * m
+    → WayArc (asesOf (linksOf ws)) (wayAt (linksOf ws) r k) (arcAt (linksOf ws) k)
+laid-way {ws} {m} {t} {r} l k h = way-arc (linksOf ws) r (l .places) k (omega (arith, l .links))
+
+pub laid-direction : {ws : List ℕ} {m : ℕ} {t r : List ℕ} → Laid ws m t r → (k : ℕ) → k < 2 * m → arcAt (linksOf ws) k .direction ≡ k
+laid-direction {ws} l k h = arc-direction (linksOf ws) k (omega (arith, l .links))
+
+pub laid-arc : {ws : List ℕ} {m : ℕ} {t r : List ℕ} → Laid ws m t r → (k : ℕ) → k < 2 * m → In (arcAt (linksOf ws) k) (netOf ws)
+laid-arc {ws} l k h = arc-in (linksOf ws) k (omega (arith, l .links))
+
+-- One direction -------------------------------------------------------------------------------------------------------------
+
+module _ {ws : List ℕ} {m : ℕ} {t r : List ℕ} {u k : ℕ} {o : Offered} (h : Hearing ws m t r u k o)
+    (w : Way) (is : w ≡ wayAt (linksOf ws) r k) where
+  arc : Arc
+  arc = arcAt (linksOf ws) k
+
+  at : WayArc (asesOf (linksOf ws)) w arc
+  unfolding arc
+  at = rw is (laid-way (h .laid) k (h .direction))
+
+  pub teller-fits : 4 * w .neighbour + 4 ≤ length t
+  teller-fits = omega (arith, at .neighbour-in, h .laid .table)
+
+  pub told-fits : (p : TypeLength) (x : ℕ) → p ≡ pairOf x → p .length + w .cost < 4294967296
+  told-fits p x e = omega (arith, ap (λ (v : Way). v .cost) is, ap (λ (q : TypeLength). q .length) e)
+
+  pub hear-own : w .hearer ≡ u → (x : ℕ) (p : TypeLength) (o′ : Offered) → x ≡ numberAt t (w .neighbour) → p ≡ pairOf (heldAt m r k)
+      → Considered o w x p o′ → Heard ws m r u k o o′
+  unfolding arc
+  hear-own e x p o′ f g c =
+      let from : arc .neighbour ≡ x = sym (at .neighbour) ∙ sym (h .laid .numbers (w .neighbour) (at .neighbour-in)) ∙ sym f in
+      let own : arc .hearer ≡ asAt ws u = sym (at .hearer) ∙ ap (asAt ws) e in
+      let over : OverWay w x arc =
+      record {
+        kind = at .kind;
+        cost = at .cost;
+        rank = arcs-rank (linksOf ws) arc (laid-arc (h .laid) k (h .direction)) ∙ from;
+        neighbour = from;
+      } in
+      let held : p ≡ heldOver m r arc = g ∙ ap (λ (i : ℕ). pairOf (heldAt m r i)) (sym (laid-direction (h .laid) k (h .direction))) in
+      c .chosen arc over ∙ ap (λ (q : TypeLength). choose (asOffer o) (offer arc q)) held
+      ∙ ap (choose (asOffer o)) (sym (heard-own (heldOver m r) (asAt ws u) arc own))
+
+  pub hear-other : w .hearer ≢ u → Heard ws m r u k o o
+  unfolding arc none
+  hear-other ne =
+      let off : arc .hearer ≢ asAt ws u = (λ e. ne (as-place ws (w .hearer) u (at .hearer-in) (h .place) (at .hearer ∙ e))) in
+      rw (heard-other (heldOver m r) (asAt ws u) arc off)
+      (sym (choose-keeps (asOffer o) (none (asAt ws u)) (fair-le (h .fair) (none (asAt ws u)) refl)))
+
+-- Direction after direction -------------------------------------------------------------------------------------------------
+
+-- from the offer x on, o is the best over the first k directions
+pub record BestTo (ws : List ℕ) (m : ℕ) (r : List ℕ) (u : ℕ) (x : Offer) (k : ℕ) (o : Offered) : Type 0 where
+  pub rest : elect (heldOver m r) (asAt ws u) (asOffer o) (drop k (netOf ws)) ≡ elect (heldOver m r) (asAt ws u) x (netOf ws)
+  pub fair : Fair o
+
+module _ {ws : List ℕ} {m : ℕ} {t r : List ℕ} (l : Laid ws m t r) (u : ℕ) where
+  arcs-long : length (netOf ws) ≡ 2 * m
+  arcs-long = arcs-length 0 (linksOf ws) ∙ ap (λ (n : ℕ). 2 * n) (l .links)
+
+  pub best-first : (o : Offered) → Fair o → BestTo ws m r u (asOffer o) 0 o
+  best-first o f = record { rest = refl; fair = f }
+
+  module _ {x : Offer} {k : ℕ} {o : Offered} (b : BestTo ws m r u x k o) where
+    pub best-more : k < 2 * m → (o′ : Offered) → Heard ws m r u k o o′ → BestTo ws m r u x (k + 1) o′
+    unfolding elect none
+    best-more h o′ e =
+        let v = asAt ws u in
+        let y = heard (heldOver m r) v (arcAt (linksOf ws) k) in
+        let split : drop k (netOf ws) ≡ arcAt (linksOf ws) k ∷ drop (k + 1) (netOf ws) =
+        rw add-one (drop-cons (netOf ws) k noArc (omega (arith, arcs-long))) in
+        let worse : Le (asOffer o′) (asOffer o) = rw e (choose-le (asOffer o) y .0) in
+        record {
+          rest =
+              ap (λ (z : Offer). elect (heldOver m r) v z (drop (k + 1) (netOf ws))) e
+              ∙ ap (elect (heldOver m r) v (asOffer o)) (sym split) ∙ b .rest;
+          fair = le-fair v (le-trans worse (fair-le (b .fair) (none v) refl));
+        }
+
+    pub best-all : 2 * m ≤ k → asOffer o ≡ elect (heldOver m r) (asAt ws u) x (netOf ws)
+    unfolding elect
+    best-all h =
+        let over : length (netOf ws) ≤ k = omega (arith, arcs-long) in
+        ap (elect (heldOver m r) (asAt ws u) (asOffer o)) (sym (drop-of-length-le (netOf ws) over)) ∙ b .rest
+
+-- no offer, as the code makes it
+pub none-fair : (x : ℕ) (o : Offered) → o ≡ offerOf unreachableOf x → Fair o
+none-fair x o e = rw e (record { typ = omega arith; long = λ p. refl; rank = λ p. refl })
+
+pub best-none : {ws : List ℕ} {m : ℕ} {t r : List ℕ} → Laid ws m t r → {u : ℕ} → u < asesIn ws → {x : ℕ} {y o : Offered} → x ≡ numberAt t u
+    → y ≡ offerOf unreachableOf x → asOffer o ≡ elect (heldOver m r) (asAt ws u) (asOffer y) (netOf ws)
+    → asOffer o ≡ best (heldOver m r) (asAt ws u) (netOf ws)
+unfolding best none
+best-none {ws} {m} {t} {r} l {u} h {x} {y} e f b =
+    let is : asOffer y ≡ none (asAt ws u) = ap asOffer f ∙ ap none (e ∙ l .numbers u h) in
+    b ∙ ap (λ (z : Offer). elect (heldOver m r) (asAt ws u) z (netOf ws)) is

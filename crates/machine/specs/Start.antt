@@ -1,0 +1,40 @@
+-- What the fresh start asks and says.
+--
+--   freshLines d       the lines of the fresh start: the destination's own, every other AS unreachable
+--   Blank m j r r′     r′ is r with nothing but unreachable held, and nothing waiting, on its first j directions
+--   Starting           the ASes of m links in a list, the destination at a place among them, and memory for the machine
+--   Started            table and room hold the fresh start
+use Prim.Native.Nat.{ℕ, _*_, _≤_, _<_}
+use mathlib.Core.Path.{_≡_}
+use mathlib.Core.List.{List}
+use lib.ListN.{length, getD, take, drop}
+use Rattle.rules.specs.Lists.{changed}
+use Rattle.rules.specs.Pairs.{unreachableOf}
+use Rattle.rules.specs.Network.{linksOf, asesOf}
+use Rattle.rules.specs.Stable.{Routing, own, lost}
+use Rattle.rules.specs.Machine.{started}
+use Rattle.machine.specs.Room.{pairWord, heldAt, waitAt, netOf, asesIn, asAt, Laid}
+use Rattle.machine.specs.Runs.{noCounts, Reached}
+
+abbrev pub freshLines : ℕ → Routing
+freshLines d = changed lost d (own d)
+
+pub record Blank (m j : ℕ) (r r′ : List ℕ) : Type 0 where
+  pub long : length r′ ≡ length r
+  pub places : (i : ℕ) → i < 2 * m → getD r′ i 0 ≡ getD r i 0
+  pub held : (k : ℕ) → k < j → heldAt m r′ k ≡ pairWord unreachableOf
+  pub waiting : (k : ℕ) → k < j → waitAt m r′ k ≡ 0
+
+pub record Starting (ws : List ℕ) (m : ℕ) (list : List ℕ) (n place : ℕ) (t r : List ℕ) : Type 0 where
+  pub links : length (linksOf ws) ≡ m
+  pub words : length ws ≡ 3 * m
+  pub listed : take n list ≡ asesOf (linksOf ws)
+  pub count : n ≡ asesIn ws
+  pub few : n < 4294967296
+  pub destination : place < n
+  pub table : 4 * n ≤ length t
+  pub room : 6 * m ≤ length r
+
+pub record Started (ws : List ℕ) (m place : ℕ) (t t′ r′ : List ℕ) : Type 0 where
+  pub laid : Laid ws m t′ r′
+  pub reached : Reached ws m (drop (4 * asesIn ws) t) (started (netOf ws) (asAt ws place)) noCounts t′ r′
