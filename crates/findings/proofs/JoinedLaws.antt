@@ -12,15 +12,7 @@ use Rattle.rules.specs.Network.{asesOf}
 use Rattle.rules.specs.Findings.{isTop, arePeers, Joined, joined}
 use Rattle.rules.proofs.Tests.{and-left, and-right, and-yes}
 use Rattle.findings.specs.Joinings.{pairJoined, meets}
-
-module _ {A : Type 0} (f : A → Bool) where
-  pub allOf-each : (l : List A) → allOf f l ≡ true → (x : A) → In x l → f x ≡ true
-  allOf-each (y ∷ l) e x (inl q) = ap f q ∙ and-left (f y) (allOf f l) e
-  allOf-each (y ∷ l) e x (inr m) = allOf-each l (and-right (f y) (allOf f l) e) x m
-
-  pub allOf-true : (l : List A) → ((x : A) → In x l → f x ≡ true) → allOf f l ≡ true
-  allOf-true [] h = refl
-  allOf-true (y ∷ l) h = and-yes (f y) (allOf f l) (h y (inl refl)) (allOf-true l (λ x m. h x (inr m)))
+use Rattle.findings.proofs.TestLaws.{allOf-each, allOf-true}
 
 -- one pair
 pair-yes : (s t : Bool) (u v : ℕ) (p : Bool) → (not (s && t) || eqb u v || p) ≡ true → s ≡ true → t ≡ true → u ≢ v → p ≡ true

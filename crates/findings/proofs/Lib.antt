@@ -1,3 +1,4 @@
+pub mod TestLaws
 pub mod Chains
 pub mod RingLaws
 pub mod JoinedLaws

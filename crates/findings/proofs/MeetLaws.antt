@@ -18,7 +18,7 @@ use Rattle.offers.proofs.PlaceLaws.{at-in, place-in, place-at}
 use Rattle.findings.specs.declared.Parts.{Parts}
 use Rattle.findings.specs.Rooms.{asesIn, flagAt, flag, Within}
 use Rattle.findings.specs.Joinings.{Started, Chosen, Peered, metAt, AllMet, pairJoined, meets, Meeting, Joining}
-use Rattle.findings.proofs.JoinedLaws.{allOf-each, allOf-true}
+use Rattle.findings.proofs.TestLaws.{untrue, allOf-each, allOf-true}
 use Rattle.findings.proofs.RoomLaws.{within-same, within-more, within-wider, laid-place, flag-kept}
 use Rattle.findings.proofs.TellLaws.{heard-same}
 use Rattle.findings.proofs.TopLaws.{heard-peers}
@@ -30,11 +30,7 @@ allOf-yes : (f : ℕ → Bool) (us : List ℕ) → ((k : ℕ) → k < length us 
 allOf-yes f us h = sym (allOf-true f us (λ x m. ap f (sym (place-in us x m .1)) ∙ h (placeIn us x) (place-in us x m .0)))
 
 allOf-not : (f : ℕ → Bool) (us : List ℕ) (k : ℕ) → k < length us → f (getD us k 0) ≡ false → false ≡ allOf f us
-allOf-not f us k l e = go (allOf f us) (λ h. false≢true (sym e ∙ allOf-each f us h (getD us k 0) (at-in 0 us k l)))
-  where
-    go : (b : Bool) → (b ≡ true → ⊥) → false ≡ b
-    go true d = absurd (d refl)
-    go false d = refl
+allOf-not f us k l e = untrue (allOf f us) (λ h. false≢true (sym e ∙ allOf-each f us h (getD us k 0) (at-in 0 us k l)))
 
 -- that hold together
 eqb-same : (a b c d : ℕ) → (a ≡ b → c ≡ d) → (c ≡ d → a ≡ b) → eqb a b ≡ eqb c d

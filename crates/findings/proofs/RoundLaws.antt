@@ -20,6 +20,7 @@ use Rattle.findings.specs.declared.Pass.{Pass}
 use Rattle.findings.specs.Rooms.{asesIn, flagAt, flag, Sized, Laid, Within, Filled, AnySet}
 use Rattle.findings.specs.Tellings.{teller, hearer, tells, Telling, Told}
 use Rattle.findings.specs.Peelings.{onesIn, Fewer, Peeled, hasCustomer, Round, RingsLeft, Bare}
+use Rattle.findings.proofs.TestLaws.{untrue}
 use Rattle.findings.proofs.Chains.{Below, below-link, link-below}
 use Rattle.findings.proofs.RingLaws.{ringed-ring, ring-ringed, reaches-as, ring-next, left-ring}
 use Rattle.findings.proofs.RoomLaws.{within-more, within-wider, within-flag, laid-kept, laid-place, flag-kept, filled-flag}
@@ -137,8 +138,4 @@ module _ {ws t u : List ℕ} {s : Parts} (n : s .ases ≡ length (asesIn ws)) (a
 
   pub ring-found : (r : Bool) → AnySet u (s .left) (s .ases) r → r ≡ ringed (linksOf ws)
   ring-found true h = sym (one-left h)
-  ring-found false h = go (ringed (linksOf ws)) (none-left h)
-    where
-      go : (q : Bool) → (q ≡ true → ⊥) → false ≡ q
-      go true d = absurd (d refl)
-      go false d = refl
+  ring-found false h = untrue (ringed (linksOf ws)) (none-left h)

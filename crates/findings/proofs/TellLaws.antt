@@ -22,6 +22,7 @@ use Rattle.findings.specs.declared.Parts.{Parts}
 use Rattle.findings.specs.declared.Pass.{Pass}
 use Rattle.findings.specs.Rooms.{asesIn, flagAt, flag, Laid, Within}
 use Rattle.findings.specs.Tellings.{teller, hearer, tells, heard, hasNews, Telling, Told}
+use Rattle.findings.proofs.TestLaws.{anyOf-same}
 use Rattle.findings.proofs.TellerLaws.{place-one, link-in, place-teller, place-hearer, teller-in, hearer-in}
 use Rattle.findings.proofs.RoomLaws.{within-same, within-more, within-set, laid-kept, laid-place, set-flag, set-other, flag-kept}
 
@@ -219,13 +220,6 @@ telling h p w f g a =
       to-later = g .0;
       apart = a;
     }
-
-pub anyOf-same : {A : Type 0} (f g : A → Bool) (l : List A) → ((x : A) → In x l → f x ≡ g x) → anyOf f l ≡ anyOf g l
-anyOf-same f g [] h = refl
-anyOf-same f g (x ∷ l) h =
-    let e : f x ≡ g x = h x (inl refl) in
-    let r : anyOf f l ≡ anyOf g l = anyOf-same f g l (λ y m. h y (inr m)) in
-    cc
 
 pub heard-same : (ws : List ℕ) (r w : ℕ) (f g : ℕ → Bool) (x : ℕ) → ((y : ℕ) → In y (asesIn ws) → f y ≡ g y)
     → heard r w f x (linksOf ws) ≡ heard r w g x (linksOf ws)

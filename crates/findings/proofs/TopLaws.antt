@@ -20,8 +20,9 @@ use Rattle.findings.specs.declared.Pass.{Pass}
 use Rattle.findings.specs.Rooms.{asesIn, flagAt, flag, Laid, Within, Filled}
 use Rattle.findings.specs.Tellings.{teller, hearer, tells, heard, Telling, Told}
 use Rattle.findings.specs.Joinings.{Started, Chosen, Peered}
+use Rattle.findings.proofs.TestLaws.{anyOf-same}
 use Rattle.findings.proofs.RoomLaws.{within-more, within-set, laid-kept, set-flag, set-other, flag-kept, filled-flag}
-use Rattle.findings.proofs.TellLaws.{telling, anyOf-same, told-by}
+use Rattle.findings.proofs.TellLaws.{telling, told-by}
 
 -- Tops --------------------------------------------------------------------------------------------------------------------
 
