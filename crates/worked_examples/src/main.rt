@@ -1,6 +1,7 @@
 // P1 to P10 of document 01 run on the code; what it prints is held to the document's sentences in the file stdout.
 use findings::Found;
 use libc::STDOUT_FILENO;
+use machine::Ran;
 use rules::Verdict;
 
 // Network A: 10|20|-1, 20|30|-1, 30|40|-1, 10|40|0, 10|50|-1.
@@ -108,6 +109,37 @@ fn say_sheets() {
     say_judged(&bytes);
 }
 
+// A run of the machine on network A to 40: the table of its end, deliveries made, idle choices, quiet or not.
+fn say_run(choices: &[u32], further: u32) {
+    let mut table = [0u32; 20];
+    let mut room = [0u32; 80];
+    match machine::run(&NETWORK_A, 40, choices, further, &mut table, &mut room) {
+        Ran::Ran(made, idle, quiet) => {
+            say_lines(&table);
+            say(b"  made ");
+            io::print_decimal(STDOUT_FILENO, made as u64);
+            say(b" idle ");
+            io::print_decimal(STDOUT_FILENO, idle as u64);
+            say_answer(b" quiet", quiet);
+        }
+        Ran::Refused(why) => say_number(why.number()),
+    }
+    say(b"\n");
+}
+
+// P5 to P7: no choices; the choices 7 and 8, to the end and alone; the choices 7, 8 and 7 alone.
+fn say_runs() {
+    let choices = [7u32, 8, 7];
+    say(b"P5");
+    say_run(&choices[..0], 65536);
+    say(b"P6");
+    say_run(&choices[..2], 65536);
+    say(b"P6");
+    say_run(&choices[..2], 0);
+    say(b"P7");
+    say_run(&choices, 0);
+}
+
 fn main() {
     say(b"P1");
     say_table(&NETWORK_A, 40);
@@ -122,6 +154,7 @@ fn main() {
     say_number(rules::extend_type(2, 2));
     say_number(rules::extend_type(3, 2));
     say(b"\n");
+    say_runs();
     say(b"P8");
     say_findings(&NETWORK_A);
     say(b"P9");
