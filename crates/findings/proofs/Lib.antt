@@ -7,6 +7,8 @@ pub mod RoomLaws
 pub mod TellLaws
 pub mod PeelLaws
 pub mod RoundLaws
+pub mod RankLaws
 pub mod TopLaws
+pub mod HintLaws
 pub mod MeetLaws
 pub mod EntryLaws

@@ -3,3 +3,4 @@ pub mod Rooms
 pub mod Tellings
 pub mod Peelings
 pub mod Joinings
+pub mod Ranks

@@ -13,8 +13,12 @@ use rules::Checked;
 use rules::Refusal;
 
 mod cells;
+mod marks;
+mod order;
 mod passes;
+mod ranks;
 mod ring;
+mod scratch;
 mod tops;
 
 // Whether there is a customer ring, and whether the network is joined; or a refusal.

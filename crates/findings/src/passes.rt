@@ -23,7 +23,7 @@ fn has_news(words: &[u32], room: &[u32], parts: Parts, pass: Pass, i: usize) -> 
 }
 
 // The pass over link i.
-fn tell_over(words: &[u32], room: &mut [u32], parts: Parts, pass: Pass, i: usize)
+pub fn tell_over(words: &[u32], room: &mut [u32], parts: Parts, pass: Pass, i: usize)
     requires { ⌜ (i < parts .links) × Telling (now words) (now room) parts pass ⌝ }
     ensures { λ _. ⌜ Told (now (words .entry)) pass (linkAt (now (words .entry)) i ∷ []) (now (room .entry)) (now (room .exit)) ⌝ }
 {

@@ -1,4 +1,5 @@
-// The customer ring: ASes that have no customer left are peeled off, pass after pass. A ring is there if and only if one is left.
+// The customer ring: ASes that have no customer left are peeled off, pass after pass. A ring is there if and only if one is left. Most
+// often ranks peel off all of them at once, so that one pass more ends it.
 ghost use Prim.Native.Nat.{_+_, _<_};
 ghost use mathlib.Core.Path.{_≡_};
 ghost use Rattle.rules.specs.Network.{linksOf};
@@ -10,7 +11,9 @@ use super::Parts;
 use super::Pass;
 use super::UP;
 use super::cells;
+use super::order;
 use super::passes;
+use super::ranks;
 
 // Takes the AS at place p away if it is left and has no customer left. Whether it did.
 fn peel_at(room: &mut [u32], parts: Parts, p: usize) -> bool
@@ -68,11 +71,24 @@ fn strip(words: &[u32], room: &mut [u32], parts: Parts)
     while peel(words, room, parts) {}
 }
 
+// Who has a rank is taken away at once, if the ranks show that none of them is on a ring.
+fn peel_ranked(words: &[u32], room: &mut [u32], parts: Parts)
+    requires { ⌜ Laid (now words) (now room) parts × RingsLeft (now words) parts (now room) ⌝ }
+    ensures { λ _. ⌜ Laid (now (words .entry)) (now (room .exit)) parts × RingsLeft (now (words .entry)) parts (now (room .exit)) ⌝ }
+{
+    let mut rank = [0u32; 512];
+    order::rank(words, room, parts.ases, &mut rank);
+    if ranks::fall(words, room, parts, &rank) {
+        ranks::spare(room, parts, &rank);
+    }
+}
+
 // Whether there is a customer ring, from a room in which every AS is left.
 pub fn has_ring(words: &[u32], room: &mut [u32], parts: Parts) -> bool
     requires { ⌜ Laid (now words) (now room) parts × RingsLeft (now words) parts (now room) ⌝ }
     ensures { λ r. ⌜ r ≡ ringed (linksOf (now (words .entry))) ⌝ }
 {
+    peel_ranked(words, room, parts);
     strip(words, room, parts);
     cells::any_set(room, parts.left, parts.ases)
 }

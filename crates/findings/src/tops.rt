@@ -1,10 +1,10 @@
-// Whether the network is joined: every two different tops are peers. For each top its peers are marked by passes over the links, and a
-// top that is not marked is looked for.
+// Whether the network is joined: every two different tops are peers. For each top its peers are marked, and a top that is not marked is
+// looked for: first with the marks from its own links, and where they miss a top, by passes over all links.
 ghost use Prim.Native.Nat.{_+_, _*_, _≤_, _<_};
 ghost use mathlib.Core.Path.{_≡_};
 ghost use lib.ListN.{length};
 ghost use Rattle.findings.specs.Rooms.{Sized, Laid};
-ghost use Rattle.findings.specs.Joinings.{Started, Chosen, Peered, metAt, AllMet, Meeting, Joining};
+ghost use Rattle.findings.specs.Joinings.{Started, Chosen, Peered, metAt, AllMet, Top, Trying, Meeting, Joining};
 use super::DOWN;
 use super::PEERS;
 use super::PROVIDES;
@@ -12,6 +12,7 @@ use super::Parts;
 use super::Pass;
 use super::UP;
 use super::cells;
+use super::marks;
 use super::passes;
 
 // Every AS is left, and who has a provider is told so.
@@ -87,17 +88,62 @@ fn all_met(room: &[u32], parts: Parts) -> bool
     true
 }
 
+// Whether the top at place p is seen to be a peer of every other top, by its own links.
+fn seems_met(words: &[u32], room: &mut [u32], parts: Parts, index: &[u32], p: usize) -> bool
+    requires { ⌜ (p < parts .ases) × Started (now words) parts (now room) ⌝ }
+    ensures { λ r. ⌜ Trying (now (words .entry)) parts p (now (room .entry)) (now (room .exit)) r ⌝ }
+{
+    choose(room, parts, p);
+    marks::meet_noted_peers(words, room, parts, index, p);
+    all_met(room, parts)
+}
+
+// Whether the top at place p is a peer of every other top, by all links.
+fn meets_surely(words: &[u32], room: &mut [u32], parts: Parts, p: usize) -> bool
+    requires { ⌜ Top (now words) parts p (now room) ⌝ }
+    ensures { λ r. ⌜ Meeting (now (words .entry)) parts p (now (room .entry)) (now (room .exit)) r ⌝ }
+{
+    choose(room, parts, p);
+    meet_peers(words, room, parts);
+    all_met(room, parts)
+}
+
+// Whether the top at place p is a peer of every other top.
+fn top_meets(words: &[u32], room: &mut [u32], parts: Parts, index: &[u32], p: usize) -> bool
+    requires { ⌜ Top (now words) parts p (now room) ⌝ }
+    ensures { λ r. ⌜ Meeting (now (words .entry)) parts p (now (room .entry)) (now (room .exit)) r ⌝ }
+{
+    if seems_met(words, room, parts, index, p) {
+        return true;
+    }
+    meets_surely(words, room, parts, p)
+}
+
 // Whether the AS at place p is a peer of every other top, or no top.
-fn meets_tops(words: &[u32], room: &mut [u32], parts: Parts, p: usize) -> bool
+fn meets_tops(words: &[u32], room: &mut [u32], parts: Parts, index: &[u32], p: usize) -> bool
     requires { ⌜ (p < parts .ases) × Started (now words) parts (now room) ⌝ }
     ensures { λ r. ⌜ Meeting (now (words .entry)) parts p (now (room .entry)) (now (room .exit)) r ⌝ }
 {
     if cells::is_set(room, parts.served + p) {
         return true;
     }
-    choose(room, parts, p);
-    meet_peers(words, room, parts);
-    all_met(room, parts)
+    top_meets(words, room, parts, index, p)
+}
+
+// Whether every AS is one.
+fn all_meet(words: &[u32], room: &mut [u32], parts: Parts, index: &[u32]) -> bool
+    requires { ⌜ Started (now words) parts (now room) ⌝ }
+    ensures { λ r. ⌜ Joining (now (words .entry)) parts (now (room .entry)) (now (room .exit)) r ⌝ }
+{
+    let n = parts.ases;
+    let mut p = 0;
+    while p < n {
+        if !meets_tops(words, room, parts, index, p) {
+            return false;
+        }
+        p += 1;
+    }
+    true
 }
 
 // Whether the network is joined.
@@ -105,13 +151,7 @@ pub fn is_joined(words: &[u32], room: &mut [u32], parts: Parts) -> bool
     requires { ⌜ Started (now words) parts (now room) ⌝ }
     ensures { λ r. ⌜ Joining (now (words .entry)) parts (now (room .entry)) (now (room .exit)) r ⌝ }
 {
-    let n = parts.ases;
-    let mut p = 0;
-    while p < n {
-        if !meets_tops(words, room, parts, p) {
-            return false;
-        }
-        p += 1;
-    }
-    true
+    let mut index = [0u32; 3584];
+    marks::note_links(words, room, &mut index);
+    all_meet(words, room, parts, &index)
 }

@@ -7,9 +7,11 @@ pub mod TextExamples
 pub mod DigitLaws
 pub mod LineLaws
 pub mod TextLaws
+pub mod RefusalPlaces
 pub mod RoundTrips
 pub mod StoreLaws
 pub mod WordLaws
 pub mod WriteLaws
 pub mod EntryLaws
 pub mod EntryTrips
+pub mod QuickLaws

@@ -3,15 +3,16 @@
 --   behind done x      the links done, and then what reading the rest gives
 --   Held t old most at line n ws   from byte `at` of the text t, which is line `line`, n links are in the words ws that were `old`
 --   Turn t .. end r    and the line up to `end` gave r
+--   line-end           the line ends within the text
 --   begins, skips, takes   the first turn, a comment passed, a link taken
 --   stops-bad, stops-over, ends-all   the reply, where a turn leaves the loop
 use mathlib.Core.Path.{_≡_, refl, sym, ap, _∙_}
 use mathlib.Core.Logic.{⊎-elim}
 use mathlib.Core.List.{List, [], _∷_, _++_, append-assoc, append-nil}
-use Prim.Native.Nat.{ℕ, suc, _+_, _-_, _*_, _≤_, _<_}
+use Prim.Native.Nat.{ℕ, suc, _+_, _*_, _≤_, _<_}
 use native.Mathlib.Numerals.{add-one}
 use native.Mathlib.Omega.{arith}
-use lib.ListN.{length, take, drop, length-append, length-set, drop-of-length-le}
+use lib.ListN.{length, drop, length-append, length-set, drop-of-length-le}
 use types.Run.{OneOf}
 use denote.Enum.Declared.{tagOf}
 use borrow.Author.Tests.{le-leb, lt-leb}
@@ -21,10 +22,10 @@ use Rattle.rules.specs.declared.Checked.the-variants.{Accepted, Refused}
 use Rattle.rules.specs.Network.{flat}
 use Rattle.linktext.specs.declared.LineRead.{LineRead}
 use Rattle.linktext.specs.declared.LineRead.the-variants.{Skip, Reads, Faulty}
-use Rattle.linktext.specs.Lines.{lf, readLine}
+use Rattle.linktext.specs.Lines.{lf}
 use Rattle.linktext.specs.Texts.{linesOf, TextRead, links, refused, andLink, takeLine, readLines}
-use Rattle.linktext.specs.Fields.{placeOf}
 use Rattle.linktext.specs.Scratch.{withLink, ReadInto}
+use Rattle.linktext.specs.Usual.{Gives}
 use Rattle.linktext.proofs.LineRead.{the-type}
 use Rattle.linktext.proofs.PlaceLaws.{place-within, first-line}
 use Rattle.linktext.proofs.ScratchLaws.{more-words}
@@ -93,18 +94,20 @@ bad-line most n i next (Faulty why) p q = refl
 pub record Turn (t old : List ℕ) (most at line n : ℕ) (ws : List ℕ) (end : ℕ) (r : LineRead) : Type 0 where
   pub held : Held t old most at line n ws
   pub more : at < length t
-  pub stop : end ≡ at + placeOf lf (drop at t)
-  pub gave : r ≡ readLine (take (end - at) (drop at t))
+  pub given : Gives t at end r
 
 module _ {t old ws : List ℕ} {most at line n end : ℕ} {r : LineRead} (T : Turn t old most at line n ws end r) where
   further : ℕ → TextRead
   further m = readLines most m (suc line) (linesOf (drop (end + 1) t))
 
+  pub line-end : end ≤ length t
+  line-end = place-within lf t at end (omega (arith, T .more)) (T .given .stop)
+
   turn : {x : LineRead} → r ≡ x → behind (T .held .done) (takeLine most n line further x) ≡ readLines most 0 1 (linesOf t)
   unfolding further readLines
   turn p =
-      rw (sym p ∙ T .gave)
-      (sym (ap (λ (ls : List (List ℕ)). behind (T .held .done) (readLines most n line ls)) (first-line t at end (T .more) (T .stop))) ∙ T .held .rest)
+      rw (sym p ∙ T .given .gave)
+      (sym (ap (λ (ls : List (List ℕ)). behind (T .held .done) (readLines most n line ls)) (first-line t at end (T .more) (T .given .stop))) ∙ T .held .rest)
 
   pub stops-bad : NoSkip r → NoLink r
       → ReadInto (readLines most 0 1 (linesOf t)) old ws (Refused (Unreadable line))
@@ -124,7 +127,7 @@ module _ {t old ws : List ℕ} {most at line n end : ℕ} {r : LineRead} (T : Tu
         within = T .held .within;
         room = T .held .room;
         lines = omega (arith, T .held .lines);
-        place = omega (arith, place-within lf t at end (omega (arith, T .more)) (T .stop));
+        place = omega (arith, line-end);
         size = T .held .size;
         kept = T .held .kept;
         rest = rw (add-one line) (turn p);
@@ -140,7 +143,7 @@ module _ {t old ws : List ℕ} {most at line n end : ℕ} {r : LineRead} (T : Tu
         within = omega arith;
         room = T .held .room;
         lines = omega (arith, T .held .lines);
-        place = omega (arith, place-within lf t at end (omega (arith, T .more)) (T .stop));
+        place = omega (arith, line-end);
         size = simp length-set (T .held .size);
         kept = more-words (T .held .done) l old ws n (T .held .count) (omega (arith, T .held .room)) (T .held .size) (T .held .kept);
         rest =

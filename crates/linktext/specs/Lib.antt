@@ -6,4 +6,5 @@ pub mod Fields
 pub mod Scratch
 pub mod Stored
 pub mod Plain
+pub mod Usual
 pub mod Samples

@@ -2,6 +2,7 @@
 use rules::Link;
 
 pub mod line;
+pub mod quick;
 pub mod reading;
 pub mod writing;
 

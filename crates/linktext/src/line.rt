@@ -13,18 +13,18 @@ ghost use Rattle.linktext.specs.Fields.{placeOf, capped, relationRead, n
 
 const HASH: u8 = b'#';
 
-const MINUS: u8 = b'-';
+pub const MINUS: u8 = b'-';
 
-const ZERO: u8 = b'0';
+pub const ZERO: u8 = b'0';
 
-const ONE: u8 = b'1';
+pub const ONE: u8 = b'1';
 
 const NINE: u8 = b'9';
 
-const BAR: u8 = b'|';
+pub const BAR: u8 = b'|';
 
 // The largest number that a field may hold.
-const MOST: u64 = 4294967295;
+pub const MOST: u64 = 4294967295;
 
 // What a field gives that should be a relation.
 pub enum Relation {
@@ -48,7 +48,7 @@ pub fn find(s: &[u8], from: usize, byte: u8) -> usize
 }
 
 // `0` to `9`.
-fn is_digit(c: u8) -> bool
+pub fn is_digit(c: u8) -> bool
     ensures { λ r. ⌜ r ≡ isDigit c ⌝ }
 {
     (ZERO <= c) & (c <= NINE)
@@ -84,7 +84,7 @@ fn in_form(field: &[u8]) -> bool
     all_digits(field)
 }
 
-fn wide(x: u8) -> u64
+pub fn wide(x: u8) -> u64
     ensures { λ r. ⌜ r ≡ x ⌝ }
 {
     x as u64

@@ -2,6 +2,8 @@
 use crate::LineRead;
 use crate::line::find;
 use crate::line::read_line;
+use crate::quick::LF;
+use crate::quick::quick_link;
 use rules::Checked;
 use rules::Limits;
 use rules::Link;
@@ -14,8 +16,13 @@ ghost use Rattle.rules.specs.Checks.{baseLimits};
 ghost use Rattle.linktext.specs.Texts.{linesOf, readLines, textIn};
 ghost use Rattle.linktext.specs.Entries.{fitted, filled, readReply, wordsAfter};
 ghost use Rattle.linktext.specs.Scratch.{withLink, ReadInto};
+ghost use Rattle.linktext.specs.Usual.{Gives};
 
-const LF: u8 = b'\n';
+// What a line gives, and where it ends: at its LF or with the text.
+struct LineAt {
+    end: usize,
+    read: LineRead,
+}
 
 // Link n into the words.
 fn put_link(words: &mut [u32], n: usize, link: Link)
@@ -28,6 +35,32 @@ fn put_link(words: &mut [u32], n: usize, link: Link)
     words[at + 2] = link.relation;
 }
 
+// What the line that begins at `at` gives, whatever it holds.
+fn any_line(text: &[u8], at: usize) -> LineAt
+    requires { ⌜ at ≤ length (now text) ⌝ }
+    ensures { λ r. ⌜ Gives (now (text .entry)) at (r .end) (r .read) ⌝ }
+{
+    let end = find(text, at, LF);
+    let read = read_line(&text[at..end]);
+    LineAt { end, read }
+}
+
+// The same, read in one pass where it is a usual line.
+fn line_at(text: &[u8], at: usize) -> LineAt
+    requires { ⌜ at ≤ length (now text) ⌝ }
+    ensures { λ r. ⌜ Gives (now (text .entry)) at (r .end) (r .read) ⌝ }
+{
+    let tried = quick_link(text, at);
+    let link = tried.link;
+    if 1 < link.relation {
+        return any_line(text, at);
+    }
+    LineAt {
+        end: tried.end,
+        read: LineRead::Reads(link),
+    }
+}
+
 // The lines in order, each link into the words as it comes.
 fn read_lines(text: &[u8], most: usize, words: &mut [u32]) -> Checked
     requires { ⌜ 3 * most ≤ length (now words) ⌝ }
@@ -37,8 +70,8 @@ fn read_lines(text: &[u8], most: usize, words: &mut [u32]) -> Checked
     let mut line: usize = 1;
     let mut n: usize = 0;
     while at < text.len() {
-        let end = find(text, at, LF);
-        let read = read_line(&text[at..end]);
+        let given = line_at(text, at);
+        let read = given.read;
         if let LineRead::Skip = read {} else {
             let LineRead::Reads(link) = read else {
                 return Checked::Refused(Refusal::Unreadable(line));
@@ -50,7 +83,7 @@ fn read_lines(text: &[u8], most: usize, words: &mut [u32]) -> Checked
             n += 1;
         }
         line += 1;
-        at = end + 1;
+        at = given.end + 1;
     }
     Checked::Accepted(n)
 }

@@ -99,7 +99,7 @@ fn digit(d: u32) -> u8
 }
 
 // Writes a number from byte `at` on, its last digit first, and answers the byte after it.
-fn put_number(bytes: &mut [u8], at: usize, n: u32) -> usize
+pub fn put_number(bytes: &mut [u8], at: usize, n: u32) -> usize
     requires { ⌜ at + length (decimal n) ≤ length (now bytes) ⌝ }
     ensures { λ r. ⌜ Stored (now (bytes .entry)) at (decimal n) (now (bytes .exit)) r ⌝ }
 {

@@ -95,13 +95,13 @@ quiet-is {ws} {m} {rest} {run} {c} {t} {r} l h k f = go (decLt k (2 * m))
         let e : k ≡ 2 * m = omega (arith, f .bound, n) in
         rw (eq-eqb k (2 * m) e, quiet-here l (h .holds) k f (omega arith))
 
-module _ {ws : List ℕ} {m place : ℕ} {cs : List ℕ} {n : ℕ} {t : List ℕ} {c : Counts} {t′ r′ : List ℕ} where
-  pub driven : {b : Counts} {u v x y : List ℕ} → Started ws m place t u v → ChoseAll ws m place cs u v b x y
-      → WentOn ws m place n b x y c t′ r′ → Driven ws m place cs n t c t′ r′
+module _ {ws : List ℕ} {m place : ℕ} {cs : List ℕ} {n : ℕ} {t : List ℕ} {c : Counts} {t′ r′ f′ : List ℕ} where
+  pub driven : {b : Counts} {u v e x y f : List ℕ} → Started ws m place t u v e → ChoseAll ws m place cs u v b x y f
+      → WentOn ws m place n b x y c t′ r′ f′ → Driven ws m place cs n t c t′ r′ f′
   unfolding runOf
-  driven s a w = record { laid = w .laid; reached = w .after _ _ (a .after _ _ (s .reached)) }
+  driven s a w = record { laid = w .laid; flagged = w .flagged; reached = w .after _ _ (a .after _ _ (s .reached)) }
 
-  pub answered : Driven ws m place cs n t c t′ r′ → {k : ℕ} → FirstWaiting m r′ k → {r r″ : List ℕ} → length r′ ≡ length r
+  pub answered : Driven ws m place cs n t c t′ r′ f′ → {k : ℕ} → FirstWaiting m r′ k → {r r″ : List ℕ} → length r′ ≡ length r
       → r″ ≡ replicate (length r′) 0 → RunAnswer ws place cs n t r (ran.Ran (c .made) (c .idle) (eqb k (2 * m))) t′ r″
   answered d {k} f long z =
       let h = d .reached in
@@ -162,6 +162,7 @@ module _ {ws list : List ℕ} {most place : ℕ} {cs : List ℕ} {n : ℕ} (g : 
             starting =
                 record {
                   links = links-are;
+                  few-links = omega (arith, links-are, g .looking .few-links);
                   words = omega (arith, links-are, g .looking .words);
                   listed = g .listed;
                   count = g .count;

@@ -1,7 +1,7 @@
 -- The election over what the room holds. What is heard over direction k is what arc k offers with the pair held there; the loop goes
 -- along the arcs, and what is left of the election from there is the whole.
-use Prim.Native.Nat.{ℕ, _+_, _*_, _≤_, _<_}
-use mathlib.Core.Path.{_≡_, refl, sym, _∙_, ap}
+use Prim.Native.Nat.{ℕ, zero, suc, _+_, _-_, _*_, _≤_, _<_}
+use mathlib.Core.Path.{_≡_, refl, sym, _∙_, ap, subst}
 use mathlib.Core.Logic.{_≢_}
 use mathlib.Core.List.{List, _∷_}
 use native.Mathlib.Omega.{arith}
@@ -26,7 +26,7 @@ use Rattle.offers.specs.Steps.{offerOf, Fair, OverWay, Considered}
 use Rattle.offers.proofs.PlaceLaws.{place-at}
 use Rattle.offers.proofs.WayLaws.{arc-in, arc-direction, WayArc, way-arc}
 use Rattle.offers.proofs.ConsiderLaws.{fair-le, le-fair}
-use Rattle.machine.specs.Room.{pairOf, heldAt, netOf, asesIn, asAt, Laid}
+use Rattle.machine.specs.Room.{pairOf, heldAt, nextAt, headAt, hearerAt, netOf, asesIn, asAt, HeardFrom, Laid}
 use Rattle.machine.specs.Steps.{heldOver, Hearing, Heard}
 
 -- different places have different ASes
@@ -49,7 +49,7 @@ laid-arc {ws} l k h = arc-in (linksOf ws) k (omega (arith, l .links))
 
 -- One direction -------------------------------------------------------------------------------------------------------------
 
-module _ {ws : List ℕ} {m : ℕ} {t r : List ℕ} {u k : ℕ} {o : Offered} (h : Hearing ws m t r u k o)
+module _ {ws : List ℕ} {m : ℕ} {t r : List ℕ} {k : ℕ} {o : Offered} (h : Hearing ws m t r k o)
     (w : Way) (is : w ≡ wayAt (linksOf ws) r k) where
   arc : Arc
   arc = arcAt (linksOf ws) k
@@ -64,12 +64,12 @@ module _ {ws : List ℕ} {m : ℕ} {t r : List ℕ} {u k : ℕ} {o : Offered} (h
   pub told-fits : (p : TypeLength) (x : ℕ) → p ≡ pairOf x → p .length + w .cost < 4294967296
   told-fits p x e = omega (arith, ap (λ (v : Way). v .cost) is, ap (λ (q : TypeLength). q .length) e)
 
-  pub hear-own : w .hearer ≡ u → (x : ℕ) (p : TypeLength) (o′ : Offered) → x ≡ numberAt t (w .neighbour) → p ≡ pairOf (heldAt m r k)
-      → Considered o w x p o′ → Heard ws m r u k o o′
+  pub hear-own : (x : ℕ) (p : TypeLength) (o′ : Offered) → x ≡ numberAt t (w .neighbour) → p ≡ pairOf (heldAt m r k)
+      → Considered o w x p o′ → Heard ws m r (hearerAt r k) k o o′
   unfolding arc
-  hear-own e x p o′ f g c =
+  hear-own x p o′ f g c =
       let from : arc .neighbour ≡ x = sym (at .neighbour) ∙ sym (h .laid .numbers (w .neighbour) (at .neighbour-in)) ∙ sym f in
-      let own : arc .hearer ≡ asAt ws u = sym (at .hearer) ∙ ap (asAt ws) e in
+      let own : arc .hearer ≡ asAt ws (hearerAt r k) = sym (laid-way (h .laid) k (h .direction) .hearer) in
       let over : OverWay w x arc =
       record {
         kind = at .kind;
@@ -79,14 +79,18 @@ module _ {ws : List ℕ} {m : ℕ} {t r : List ℕ} {u k : ℕ} {o : Offered} (h
       } in
       let held : p ≡ heldOver m r arc = g ∙ ap (λ (i : ℕ). pairOf (heldAt m r i)) (sym (laid-direction (h .laid) k (h .direction))) in
       c .chosen arc over ∙ ap (λ (q : TypeLength). choose (asOffer o) (offer arc q)) held
-      ∙ ap (choose (asOffer o)) (sym (heard-own (heldOver m r) (asAt ws u) arc own))
+      ∙ ap (choose (asOffer o)) (sym (heard-own (heldOver m r) (asAt ws (hearerAt r k)) arc own))
 
-  pub hear-other : w .hearer ≢ u → Heard ws m r u k o o
-  unfolding arc none
-  hear-other ne =
-      let off : arc .hearer ≢ asAt ws u = (λ e. ne (as-place ws (w .hearer) u (at .hearer-in) (h .place) (at .hearer ∙ e))) in
-      rw (heard-other (heldOver m r) (asAt ws u) arc off)
-      (sym (choose-keeps (asOffer o) (none (asAt ws u)) (fair-le (h .fair) (none (asAt ws u)) refl)))
+-- over a direction that another hears, an AS hears nothing
+hear-other : {ws : List ℕ} {m : ℕ} {t r : List ℕ} → Laid ws m t r → {u : ℕ} → u < asesIn ws → (k : ℕ) → k < 2 * m → hearerAt r k ≢ u
+    → {o : Offered} → Fair o → Heard ws m r u k o o
+unfolding none
+hear-other {ws} {m} {t} {r} l {u} p k h ne {o} fair =
+    let a = arcAt (linksOf ws) k in
+    let at = laid-way l k h in
+    let off : a .hearer ≢ asAt ws u = (λ e. ne (as-place ws (hearerAt r k) u (at .hearer-in) p (at .hearer ∙ e))) in
+    rw (heard-other (heldOver m r) (asAt ws u) a off)
+    (sym (choose-keeps (asOffer o) (none (asAt ws u)) (fair-le fair (none (asAt ws u)) refl)))
 
 -- Direction after direction -------------------------------------------------------------------------------------------------
 
@@ -95,15 +99,17 @@ pub record BestTo (ws : List ℕ) (m : ℕ) (r : List ℕ) (u : ℕ) (x : Offer)
   pub rest : elect (heldOver m r) (asAt ws u) (asOffer o) (drop k (netOf ws)) ≡ elect (heldOver m r) (asAt ws u) x (netOf ws)
   pub fair : Fair o
 
+-- the same where the AS at place u hears over direction k
+pub record ElectTo (ws : List ℕ) (m : ℕ) (r : List ℕ) (u : ℕ) (x : Offer) (k : ℕ) (o : Offered) : Type 0 where
+  pub own : k < 2 * m → hearerAt r k ≡ u
+  pub best : BestTo ws m r u x k o
+
 module _ {ws : List ℕ} {m : ℕ} {t r : List ℕ} (l : Laid ws m t r) (u : ℕ) where
   arcs-long : length (netOf ws) ≡ 2 * m
   arcs-long = arcs-length 0 (linksOf ws) ∙ ap (λ (n : ℕ). 2 * n) (l .links)
 
-  pub best-first : (o : Offered) → Fair o → BestTo ws m r u (asOffer o) 0 o
-  best-first o f = record { rest = refl; fair = f }
-
   module _ {x : Offer} {k : ℕ} {o : Offered} (b : BestTo ws m r u x k o) where
-    pub best-more : k < 2 * m → (o′ : Offered) → Heard ws m r u k o o′ → BestTo ws m r u x (k + 1) o′
+    best-more : k < 2 * m → (o′ : Offered) → Heard ws m r u k o o′ → BestTo ws m r u x (k + 1) o′
     unfolding elect none
     best-more h o′ e =
         let v = asAt ws u in
@@ -123,6 +129,42 @@ module _ {ws : List ℕ} {m : ℕ} {t r : List ℕ} (l : Laid ws m t r) (u : ℕ
     best-all h =
         let over : length (netOf ws) ≤ k = omega (arith, arcs-long) in
         ap (elect (heldOver m r) (asAt ws u) (asOffer o)) (sym (drop-of-length-le (netOf ws) over)) ∙ b .rest
+
+  module _ (place : u < asesIn ws) where
+    -- d directions that others hear
+    best-past : {x : Offer} {o : Offered} (d k : ℕ) → k + d ≤ 2 * m → ((i : ℕ) → k ≤ i → i < k + d → hearerAt r i ≢ u)
+        → BestTo ws m r u x k o → BestTo ws m r u x (k + d) o
+    best-past zero k h passed b = (let e : k + 0 ≡ k = omega arith in rw e b)
+    best-past {x} {o} (suc d) k h passed b =
+        let e : k + suc d ≡ k + 1 + d = omega arith in
+        let one = best-more b (omega arith) o (hear-other l place k (omega arith) (passed k (omega arith) (omega arith)) (b .fair)) in
+        rw e (best-past d (k + 1) (omega arith) (λ i p q. passed i (omega arith) (omega arith)) one)
+
+    best-on : {x : Offer} {k j : ℕ} {o : Offered} → HeardFrom m r u k j → BestTo ws m r u x k o → BestTo ws m r u x j o
+    best-on {x} {k} {j} h b =
+        let e : j ≡ k + (j - k) = omega (arith, h .after) in
+        rw e (best-past (j - k) k (omega (arith, h .after, h .bound)) (λ i p q. h .passed i p (omega (arith, h .after))) b)
+
+    -- Along the index ---------------------------------------------------------------------------------------------------------
+
+    pub elect-first : (o : Offered) → Fair o → {k : ℕ} → k ≡ headAt m r u → ElectTo ws m r u (asOffer o) k o
+    elect-first o f e =
+        let head = l .index .heads u place in
+        rw e (record { own = head .own; best = best-on head (record { rest = refl; fair = f }) })
+
+    module _ {x : Offer} {k : ℕ} {o : Offered} (b : ElectTo ws m r u x k o) (h : k < 2 * m) {j : ℕ} (e : j ≡ nextAt m r k) where
+      next : HeardFrom m r u (k + 1) j
+      next = rw e (subst (λ (v : ℕ). HeardFrom m r v (k + 1) (nextAt m r k)) (b .own h) (l .index .nexts k (omega arith) h))
+
+      pub elect-after : k < j
+      elect-after = omega (arith, next .after)
+
+      pub elect-more : {o′ : Offered} → Heard ws m r (hearerAt r k) k o o′ → ElectTo ws m r u x j o′
+      elect-more {o′} heard =
+          record {
+            own = next .own;
+            best = best-on next (best-more (b .best) h o′ (subst (λ (v : ℕ). Heard ws m r v k o o′) (b .own h) heard));
+          }
 
 -- no offer, as the code makes it
 pub none-fair : (x : ℕ) (o : Offered) → o ≡ offerOf unreachableOf x → Fair o

@@ -1,6 +1,9 @@
+pub mod BlockLaws
+pub mod IndexLaws
 pub mod RoomLaws
 pub mod HeldLaws
 pub mod StateLaws
+pub mod DeliverLaws
 pub mod RunLaws
 pub mod StartLaws
 pub mod AnswerLaws

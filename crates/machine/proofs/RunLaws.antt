@@ -19,8 +19,8 @@ use Rattle.rules.proofs.ArcLaws.{Numbered, numbered-range, arcs-numbered, arcs-
 use Rattle.rules.proofs.MachineRuns.{lowest-quiet}
 use Rattle.rules.proofs.MachineCounts.{deliver-short}
 use Rattle.machine.specs.declared.Counts.{Counts}
-use Rattle.machine.specs.Room.{pairOf, waitOf, waitAt, netOf, asAt, Laid, Holds}
-use Rattle.machine.specs.Steps.{FirstWaiting, Delivered}
+use Rattle.machine.specs.Room.{pairOf, waitOf, waitAt, netOf, asAt, Flagged, Laid, Holds}
+use Rattle.machine.specs.Steps.{FirstWaiting, Searched, Delivered}
 use Rattle.machine.specs.Runs.{noCounts, Reached, Choosing, Chose, ChoseAll, WentOn}
 
 -- The definition, one more at the end ---------------------------------------------------------------------------------------
@@ -113,7 +113,7 @@ module _ {ws : List ℕ} {m : ℕ} {rest : List ℕ} {s : State} {t r : List ℕ
 
 -- One step of every run that is held -----------------------------------------------------------------------------------------
 
-module _ {ws : List ℕ} {m d k : ℕ} {t r t′ r′ : List ℕ} (g : Delivered ws m d k t r t′ r′) where
+module _ {ws : List ℕ} {m d k : ℕ} {t r t′ r′ f′ : List ℕ} (g : Delivered ws m d k t r t′ r′ f′) where
   reached-on : {rest : List ℕ} {run : Run} {c : Counts} → Reached ws m rest run c t r → c .made < 262144
       → (p : TypeLength) → run .state .waiting k ≡ waits p
       → Reached ws m rest (delivered (netOf ws) (asAt ws d) k p run) (record { made = c .made + 1; idle = c .idle }) t′ r′
@@ -129,22 +129,24 @@ module _ {ws : List ℕ} {m d k : ℕ} {t r t′ r′ : List ℕ} (g : Delivered
         idle = h .idle;
       }
 
-module _ {ws : List ℕ} {m d k : ℕ} {c : Counts} {t r : List ℕ} (g : Choosing ws m d k c t r) where
-  pub chose-idle : waitAt m r k ≡ 0 → Chose ws m d k c t r (record { made = c .made; idle = c .idle + 1 }) t r
+module _ {ws : List ℕ} {m d k : ℕ} {c : Counts} {t r f : List ℕ} (g : Choosing ws m d k c t r f) where
+  pub chose-idle : waitAt m r k ≡ 0 → Chose ws m d k c t r (record { made = c .made; idle = c .idle + 1 }) t r f
   chose-idle e =
       record {
         laid = g .laid;
+        flagged = g .flagged;
         counts = omega arith;
         after = λ rest run h.
             rw (idle-here (g .laid) (h .holds) k (g .direction) e)
             (record { holds = h .holds; short = h .short; made = h .made; idle = omega (arith, h .idle) });
       }
 
-  pub chose-delivered : waitAt m r k ≢ 0 → {t′ r′ : List ℕ} → Delivered ws m d k t r t′ r′
-      → Chose ws m d k c t r (record { made = c .made + 1; idle = c .idle }) t′ r′
+  pub chose-delivered : waitAt m r k ≢ 0 → {t′ r′ f′ : List ℕ} → Delivered ws m d k t r t′ r′ f′
+      → Chose ws m d k c t r (record { made = c .made + 1; idle = c .idle }) t′ r′ f′
   chose-delivered ne d′ =
       record {
         laid = d′ .laid;
+        flagged = d′ .flagged;
         counts = omega arith;
         after = λ rest run h.
             let e = waits-here (g .laid) (h .holds) k (g .direction) ne in
@@ -154,43 +156,46 @@ module _ {ws : List ℕ} {m d k : ℕ} {c : Counts} {t r : List ℕ} (g : Choosi
 -- One choice more -------------------------------------------------------------------------------------------------------------
 
 module _ {ws : List ℕ} {m d : ℕ} {t r : List ℕ} where
-  pub chose-none : Laid ws m t r → ChoseAll ws m d [] t r noCounts t r
+  pub chose-none : {f : List ℕ} → Laid ws m t r → Flagged m r f → ChoseAll ws m d [] t r noCounts t r f
   unfolding chosen
-  chose-none l = record { laid = l; counts = refl; after = λ rest run h. h }
+  chose-none l g = record { laid = l; flagged = g; counts = refl; after = λ rest run h. h }
 
-  pub chose-more : (cs : List ℕ) (i : ℕ) {c : Counts} {u v : List ℕ} → ChoseAll ws m d (take i cs) t r c u v → i < length cs
-      → {k : ℕ} → k ≡ getD cs i 0 → {c′ : Counts} {u′ v′ : List ℕ} → Chose ws m d k c u v c′ u′ v′
-      → ChoseAll ws m d (take (i + 1) cs) t r c′ u′ v′
+  pub chose-more : (cs : List ℕ) (i : ℕ) {c : Counts} {u v f : List ℕ} → ChoseAll ws m d (take i cs) t r c u v f → i < length cs
+      → {k : ℕ} → k ≡ getD cs i 0 → {c′ : Counts} {u′ v′ f′ : List ℕ} → Chose ws m d k c u v c′ u′ v′ f′
+      → ChoseAll ws m d (take (i + 1) cs) t r c′ u′ v′ f′
   chose-more cs i g h e s =
       record {
         laid = s .laid;
+        flagged = s .flagged;
         counts = omega (arith, s .counts, g .counts, length-take-le i cs (omega arith), length-take-le (i + 1) cs (omega arith));
         after = λ rest run f. rw (chosen-more (netOf ws) (asAt ws d) cs i h run, ← e) (s .after rest _ (g .after rest run f));
       }
 
   -- One further delivery more -----------------------------------------------------------------------------------------------------
 
-  pub went-none : Laid ws m t r → (c : Counts) → WentOn ws m d 0 c t r c t r
+  pub went-none : {f : List ℕ} → Laid ws m t r → Flagged m r f → (c : Counts) → WentOn ws m d 0 c t r c t r f
   unfolding further
-  went-none l c = record { laid = l; after = λ rest run h. h }
+  went-none l g c = record { laid = l; flagged = g; after = λ rest run h. h }
 
-  module _ {i : ℕ} {b c : Counts} {u v : List ℕ} (g : WentOn ws m d i b t r c u v) {k : ℕ} (f : FirstWaiting m v k) where
-    pub went-more : k < 2 * m → c .made < 262144 → {u′ v′ : List ℕ} → Delivered ws m d k u v u′ v′
-        → WentOn ws m d (i + 1) b t r (record { made = c .made + 1; idle = c .idle }) u′ v′
-    went-more h few s =
+  module _ {i : ℕ} {b c : Counts} {u v e : List ℕ} (g : WentOn ws m d i b t r c u v e) {k : ℕ} {f : List ℕ} (s : Searched m v k f) where
+    pub went-more : k < 2 * m → c .made < 262144 → {u′ v′ f′ : List ℕ} → Delivered ws m d k u v u′ v′ f′
+        → WentOn ws m d (i + 1) b t r (record { made = c .made + 1; idle = c .idle }) u′ v′ f′
+    went-more h few p =
         record {
-          laid = s .laid;
+          laid = p .laid;
+          flagged = p .flagged;
           after = λ rest run e.
               let now = g .after rest run e in
-              rw (further-more (netOf ws) (asAt ws d) i run k _ (lowest-here (g .laid) (now .holds) k f h))
-              (reached-on s now few _ (waits-here (g .laid) (now .holds) k h (f .some h)));
+              rw (further-more (netOf ws) (asAt ws d) i run k _ (lowest-here (g .laid) (now .holds) k (s .first) h))
+              (reached-on p now few _ (waits-here (g .laid) (now .holds) k h (s .first .some h)));
         }
 
-    pub went-quiet : 2 * m ≤ k → {n : ℕ} → i ≤ n → WentOn ws m d n b t r c u v
+    pub went-quiet : 2 * m ≤ k → {n : ℕ} → i ≤ n → WentOn ws m d n b t r c u v f
     went-quiet h {n} l =
         record {
           laid = g .laid;
+          flagged = s .flagged;
           after = λ rest run e.
               let now = g .after rest run e in
-              rw (further-quiet (netOf ws) (asAt ws d) i n l run (quiet-here (g .laid) (now .holds) k f h)) now;
+              rw (further-quiet (netOf ws) (asAt ws d) i n l run (quiet-here (g .laid) (now .holds) k (s .first) h)) now;
         }

@@ -18,14 +18,17 @@ use Rattle.rules.proofs.Tests.{changed-same, changed-other}
 use Rattle.rules.proofs.MachineCounts.{fresh-short}
 use Rattle.offers.specs.Lines.{putLine}
 use Rattle.offers.specs.Ways.{placesOf}
+use Rattle.offers.specs.Steps.{Placed}
 use Rattle.offers.specs.Placing.{withPlaces}
 use Rattle.offers.proofs.PlaceLaws.{places-length}
+use Rattle.offers.proofs.WayLaws.{way-arc}
 use Rattle.offers.proofs.FillLaws.{fill-four}
 use Rattle.offers.proofs.TableLaws.{table-length, table-append, table-one, table-number}
-use Rattle.machine.specs.Room.{pairWord, pairOf, waitOf, heldAt, waitAt, netOf, asesIn, asAt, Laid}
-use Rattle.machine.specs.Steps.{Sent}
-use Rattle.machine.specs.Start.{freshLines, Blank, Starting, Started}
-use Rattle.machine.proofs.StateLaws.{laid-room, sent-waiting}
+use Rattle.machine.specs.Room.{pairWord, pairOf, waitOf, heldAt, waitAt, netOf, asesIn, asAt, Flagged, Laid}
+use Rattle.machine.specs.Steps.{Sending, Sent}
+use Rattle.machine.specs.Index.{Indexing, IndexLaid}
+use Rattle.machine.specs.Start.{freshLines, Blank, Readying, Ready, Starting, Started}
+use Rattle.machine.proofs.StateLaws.{placed-same, laid-room, sent-waiting}
 
 -- Lines -----------------------------------------------------------------------------------------------------------------------
 
@@ -101,21 +104,69 @@ blank-more {m} {j} {r} {q} b h fits w e =
         getD-set-other (set q (2 * m + j) w) (4 * m + j) (2 * m + j) 0 0 (λ f. omega arith)
         ∙ getD-set-same q (2 * m + j) w 0 (omega (arith, b .long))
 
+-- The room -----------------------------------------------------------------------------------------------------------------------
+
+module _ {ws : List ℕ} {m : ℕ} {list : List ℕ} {n : ℕ} {r : List ℕ} (g : Readying ws m list n r) {p q : List ℕ} (placed : p ≡ withPlaces (linksOf ws) r)
+    (blank : Blank m (2 * m) p q) where
+  front : length (placesOf (asesOf (linksOf ws)) (linksOf ws)) ≡ 2 * length (linksOf ws)
+  front = places-length (asesOf (linksOf ws)) (linksOf ws)
+
+  long : length q ≡ length r
+  long = omega (arith, blank .long, simp (length-append, length-drop) at (ap length placed), front, g .placing .room)
+
+  blank-places : Placed (linksOf ws) q
+  blank-places =
+      placed-same (linksOf ws) p q (blank .long) (λ i h. blank .places i (omega (arith, g .links)))
+      (ap (take (2 * length (linksOf ws))) placed ∙ take-at (placesOf (asesOf (linksOf ws)) (linksOf ws)) _ (2 * length (linksOf ws)) front)
+
+  pub may-lay-index : Indexing m n q
+  may-lay-index =
+      record {
+        few = g .few-links;
+        room = omega (arith, long, g .room);
+        hearers = λ k h. rw (g .placing .count) (way-arc (linksOf ws) q blank-places k (omega (arith, g .links)) .hearer-in);
+      }
+
+  pub room-ready : {v : List ℕ} → IndexLaid m n 0 q v → Ready ws m v
+  room-ready {v} x =
+      record {
+        places = placed-same (linksOf ws) q v (x .long) (λ i h. x .below i (omega (arith, g .links))) blank-places;
+        index = rw (g .placing .count) at (x .indexed);
+        held = λ k h. x .below (2 * m + k) (omega arith) ∙ blank .held k h;
+        waiting = λ k h. x .below (4 * m + k) (omega arith) ∙ blank .waiting k h;
+      }
+
+-- where nothing waits no flag is needed
+pub ready-flagged : {ws : List ℕ} {m : ℕ} {q : List ℕ} → Ready ws m q → m ≤ 1536 → (f : List ℕ) → length f ≡ 64 → Flagged m q f
+ready-flagged g few f long = record { few = few; flags = long; room = omega (arith, g .index .room); idle = λ k h e. g .waiting k h }
+
 -- The whole start ----------------------------------------------------------------------------------------------------------------
 
 module _ {ws : List ℕ} {m : ℕ} {list : List ℕ} {n place : ℕ} {t r : List ℕ} (g : Starting ws m list n place t r) where
   pub list-long : n ≤ length list
   list-long = omega (arith, simp length-take at (ap length (g .listed)), g .count)
 
-  place-in : place < asesIn ws
-  place-in = omega (arith, g .destination, g .count)
+  pub may-ready : Readying ws m list n r
+  may-ready =
+      record {
+        placing = record { list = g .listed; count = g .count; few = g .few; room = omega (arith, g .room, g .links) };
+        links = g .links;
+        few-links = g .few-links;
+        room = g .room;
+      }
+
+  pub may-send : {q f : List ℕ} → Ready ws m q → length f ≡ 64 → Sending m place q f
+  may-send {q} {f} ready long =
+      record { flagged = ready-flagged ready (g .few-links) f long; count = asesIn ws; place = place-in; index = ready .index }
+    where
+      place-in : place < asesIn ws
+      place-in = omega (arith, g .destination, g .count)
 
   its-number : getD list place 0 ≡ asAt ws place
   its-number = sym (getD-take n list place 0 (g .destination)) ∙ ap (λ (us : List ℕ). getD us place 0) (g .listed)
 
-  module _ {t′ p q v : List ℕ} {w : ℕ} (lines : t′ ≡ tableOf (freshLines (getD list place 0)) (take n list) ++ drop (4 * n) t)
-      (placed : p ≡ withPlaces (linksOf ws) r) (blank : Blank m (2 * m) p q)
-      (sent : Sent m place w (2 * m) q v) (origin : w ≡ pairWord originOf) where
+  module _ {t′ q v f : List ℕ} {w : ℕ} (lines : t′ ≡ tableOf (freshLines (getD list place 0)) (take n list) ++ drop (4 * n) t)
+      (ready : Ready ws m q) (sent : Sent m place w (2 * m) q v) (flagged : Flagged m v f) (origin : w ≡ pairWord originOf) where
     us : List ℕ
     us = asesOf (linksOf ws)
 
@@ -129,40 +180,35 @@ module _ {ws : List ℕ} {m : ℕ} {list : List ℕ} {n place : ℕ} {t r : List
     unfolding us d rest
     table-is = lines ∙ rw (its-number, g .listed, g .count)
 
-    front : length (placesOf us (linksOf ws)) ≡ 2 * length (linksOf ws)
-    unfolding us
-    front = places-length us (linksOf ws)
-
-    laid-places : Laid ws m t′ p
+    laid-ready : Laid ws m t′ q
     unfolding us d rest
-    laid-places =
+    laid-ready =
         record {
           links = g .links;
           words = g .words;
           table =
               omega (arith, simp length-append at (ap length table-is), table-length (freshLines d) us);
           numbers = λ i h. rw table-is (table-number (freshLines d) rest us i h);
-          room = omega (arith, simp (length-append, length-drop) at (ap length placed), front, g .room, g .links);
-          places = ap (take (2 * length (linksOf ws))) placed ∙ take-at (placesOf us (linksOf ws)) _ (2 * length (linksOf ws)) front;
+          room = omega (arith, ready .index .room);
+          places = ready .places;
+          index = ready .index;
         }
 
-    laid-blank : Laid ws m t′ q
-    laid-blank = laid-room laid-places q (blank .long) (blank .places)
-
-    pub fresh-started : Started ws m place t t′ v
+    pub fresh-started : Started ws m place t t′ v f
     unfolding us d rest started fresh
     fresh-started =
         record {
-          laid = laid-room laid-blank v (sent .long) (λ i h. sent .below i (omega arith));
+          laid = laid-room laid-ready v (sent .long) (λ i h. sent .below i (omega arith)) (sent .above);
+          flagged = flagged;
           reached =
               record {
                 holds =
                     record {
                       lines = table-is;
-                      held = λ k h. ap pairOf (sent .below (2 * m + k) (omega arith) ∙ blank .held k h);
+                      held = λ k h. ap pairOf (sent .below (2 * m + k) (omega arith) ∙ ready .held k h);
                       waiting =
-                          sent-waiting laid-blank place-in (omega arith) (omega arith) (rw origin at sent) (λ i. nothing)
-                          (λ k h. ap waitOf (blank .waiting k h));
+                          sent-waiting laid-ready (omega (arith, g .destination, g .count)) (omega arith) (omega arith) (rw origin at sent) (λ i. nothing)
+                          (λ k h. ap waitOf (ready .waiting k h));
                     };
                 short = fresh-short (netOf ws) d 0;
                 made = refl;

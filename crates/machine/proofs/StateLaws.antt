@@ -1,5 +1,5 @@
--- The machine's state in table and room: a delivery's stores are the definition's changes. A line that is put changes one AS's line, a
--- word that is put one direction's pair, and a sending the directions over which its AS tells.
+-- The machine's state in table and room: an election's stores are the definition's changes. A line that is put changes one AS's line, and a
+-- sending the directions over which its AS tells.
 use Prim.Native.Nat.{ℕ, _+_, _*_, _≤_, _<_}
 use mathlib.Core.Path.{_≡_, refl, sym, _∙_, ap, subst}
 use mathlib.Core.Logic.{_≢_}
@@ -9,31 +9,33 @@ use native.Mathlib.Omega.{arith}
 use native.Mathlib.Decide.{ℕ-discrete}
 use lib.Dec.{eqb}
 use lib.ListN.{length, getD, set, take, length-set, length-take}
-use lib.Seq.{ext-getD, getD-take, getD-set-same, getD-set-other}
-use borrow.Author.Tests.{eq-eqb, ne-eqb}
+use lib.Seq.{ext-getD, getD-take, getD-set-other}
+use borrow.Author.Tests.{ne-eqb}
 use Rattle.rules.specs.declared.TypeLength.{TypeLength}
+use Rattle.rules.specs.declared.Link.{Link}
 use Rattle.rules.specs.Lists.{In, changed}
 use Rattle.rules.specs.Pairs.{sameAs}
 use Rattle.rules.specs.Offers.{Arc, Offer, none, best}
 use Rattle.rules.specs.Network.{linksOf, asesOf}
 use Rattle.rules.specs.Stable.{Line, lineOf, tableOf}
-use Rattle.rules.specs.Machine.{Waiting, nothing, waits, State, send, elected, receiver, deliver}
+use Rattle.rules.specs.Machine.{Waiting, nothing, waits, State, send, elected}
 use Rattle.rules.proofs.Tests.{changed-same, changed-other}
 use Rattle.rules.proofs.OfferLaws.{pair-same, ext-range}
 use Rattle.rules.proofs.BestLaws.{Source, nowhere, from-arc, best-is, best-source, best-same}
 use Rattle.rules.proofs.NetworkLaws.{ases-distinct}
 use Rattle.rules.proofs.ArcLaws.{Directed, arcs-length, arcs-cost, arcs-numbered, numbered-range, direction-unique}
-use Rattle.rules.proofs.MachineLaws.{send-own, send-other, receiver-is}
-use Rattle.rules.proofs.MachineCounts.{by-changed, best-short}
-use Rattle.offers.specs.declared.Way.{Way}
+use Rattle.rules.proofs.MachineLaws.{send-own, send-other}
+use Rattle.rules.proofs.MachineCounts.{best-short}
 use Rattle.offers.specs.declared.Offered.{Offered}
 use Rattle.offers.specs.Lines.{numberAt, pairAt, putLine}
 use Rattle.offers.specs.Ways.{arcAt, wayAt}
 use Rattle.offers.specs.Passes.{asOffer}
+use Rattle.offers.specs.Steps.{Placed}
 use Rattle.offers.proofs.WayLaws.{WayArc}
 use Rattle.offers.proofs.TableLaws.{table-line, table-put}
 use Rattle.machine.specs.Room.{pairWord, pairOf, waitOf, placeAt, heldAt, waitAt, netOf, asesIn, asAt, Laid, Holds}
-use Rattle.machine.specs.Steps.{Sent, heldOver, ToldUnless, Took, Anew, Delivering, Delivered}
+use Rattle.machine.specs.Steps.{Sent, heldOver, ToldUnless, Took, Anew}
+use Rattle.machine.proofs.IndexLaws.{partner-in, indexed-same}
 use Rattle.machine.proofs.HeldLaws.{as-place, laid-way, laid-direction, laid-arc}
 
 -- Pairs as words ----------------------------------------------------------------------------------------------------------
@@ -44,7 +46,7 @@ pair-word p h = pair-same (omega arith, omega arith)
 wait-word : (p : TypeLength) → 1 ≤ p .typ → p .length < 268435456 → waitOf (pairWord p) ≡ waits p
 wait-word p h g = cc (ne-eqb (pairWord p) 0 (λ e. omega arith), pair-word p g)
 
-wait-pair : (w : ℕ) (p : TypeLength) → waitOf w ≡ waits p → pairOf w ≡ p
+pub wait-pair : (w : ℕ) (p : TypeLength) → waitOf w ≡ waits p → pairOf w ≡ p
 wait-pair w p = go (eqb w 0)
   where
     go : (b : Bool) → cond b nothing (waits (pairOf w)) ≡ waits p → pairOf w ≡ p
@@ -53,25 +55,31 @@ wait-pair w p = go (eqb w 0)
 
 -- What is laid out stays ----------------------------------------------------------------------------------------------------
 
+pub placed-same : (ls : List Link) (r r′ : List ℕ) → length r′ ≡ length r → ((i : ℕ) → i < 2 * length ls → getD r′ i 0 ≡ getD r i 0)
+    → Placed ls r → Placed ls r′
+placed-same ls r r′ long same placed = ext-getD 0 (take n r′) (take n r) (simp length-take (rw long)) at ∙ placed
+  where
+    n : ℕ
+    n = 2 * length ls
+
+    at : (i : ℕ) → i < length (take n r′) → getD (take n r′) i 0 ≡ getD (take n r) i 0
+    at i h =
+        let i2 : i < 2 * length ls = omega (arith, simp length-take at h) in
+        getD-take n r′ i 0 i2 ∙ same i i2 ∙ sym (getD-take n r i 0 i2)
+
 module _ {ws : List ℕ} {m : ℕ} {t r : List ℕ} (l : Laid ws m t r) where
-  pub laid-room : (r′ : List ℕ) → length r′ ≡ length r → ((i : ℕ) → i < 2 * m → getD r′ i 0 ≡ getD r i 0) → Laid ws m t r′
-  laid-room r′ long same =
+  pub laid-room : (r′ : List ℕ) → length r′ ≡ length r → ((i : ℕ) → i < 2 * m → getD r′ i 0 ≡ getD r i 0)
+      → ((i : ℕ) → 6 * m ≤ i → getD r′ i 0 ≡ getD r i 0) → Laid ws m t r′
+  laid-room r′ long same above =
       record {
         links = l .links;
         words = l .words;
         table = l .table;
         numbers = l .numbers;
         room = omega (arith, l .room);
-        places = ext-getD 0 (take n r′) (take n r) (simp length-take (rw long)) at ∙ l .places;
+        places = placed-same (linksOf ws) r r′ long (λ i h. same i (omega (arith, l .links))) (l .places);
+        index = indexed-same m r r′ same (l .index) long above;
       }
-    where
-      n : ℕ
-      n = 2 * length (linksOf ws)
-
-      at : (i : ℕ) → i < length (take n r′) → getD (take n r′) i 0 ≡ getD (take n r) i 0
-      at i h =
-          let i2 : i < 2 * length (linksOf ws) = omega (arith, simp length-take at h) in
-          getD-take n r′ i 0 i2 ∙ same i (omega (arith, l .links)) ∙ sym (getD-take n r i 0 i2)
 
   laid-line : (u : ℕ) (x : Line) → Laid ws m (putLine t u x) r
   laid-line u x =
@@ -82,6 +90,7 @@ module _ {ws : List ℕ} {m : ℕ} {t r : List ℕ} (l : Laid ws m t r) where
         numbers = λ i h. number i ∙ l .numbers i h;
         room = l .room;
         places = l .places;
+        index = l .index;
       }
     where
       number : (i : ℕ) → numberAt (putLine t u x) i ≡ numberAt t i
@@ -111,7 +120,7 @@ module _ {ws : List ℕ} {m : ℕ} {t r r′ : List ℕ} (l : Laid ws m t r) {u 
       go : Dec (placeAt r k ≡ u) → waitOf (waitAt m r′ k) ≡ send (netOf ws) (asAt ws u) p w k
       go (yes e) =
           let own : a .neighbour ≡ asAt ws u = sym (at .neighbour) ∙ ap (asAt ws) e in
-          ap waitOf (sent .on k i e) ∙ wait-word p typed short
+          ap waitOf (sent .on k (partner-in m k i) e) ∙ wait-word p typed short
           ∙ sym (send-own (netOf ws) unique (asAt ws u) p w a (laid-arc l k i) own)
           ∙ ap (send (netOf ws) (asAt ws u) p w) (laid-direction l k i)
       go (no ne) =
@@ -185,25 +194,27 @@ module _ {ws : List ℕ} {m : ℕ} {t r : List ℕ} (l : Laid ws m t r) {u : ℕ
         }
 
   -- the line is taken, and told of or not
-  pub elected-anew : {old : TypeLength} {t′ r′ : List ℕ} → old ≡ pairAt t u → Took m t r u old o t′ r′ → Anew ws m t r u t′ r′
-  elected-anew {old} {t′} {r′} is took =
+  pub elected-anew : {old : TypeLength} {t′ r′ f′ : List ℕ} → old ≡ pairAt t u → Took m t r u old o t′ r′ f′ → Anew ws m t r u t′ r′ f′
+  elected-anew {old} {t′} {r′} {f′} is took =
       rw (took .line) (go (sameAs (pairAt t u) (o .pair)) refl (subst (λ (p : TypeLength). Told p) is (took .told)))
     where
       Told : TypeLength → Type 0
       Told p = ToldUnless (sameAs p (o .pair)) m u (pairWord (o .pair)) r r′
 
       go : (b : Bool) → sameAs (pairAt t u) (o .pair) ≡ b → ToldUnless b m u (pairWord (o .pair)) r r′
-          → Anew ws m t r u (putLine t u (lineOf (asOffer o))) r′
+          → Anew ws m t r u (putLine t u (lineOf (asOffer o))) r′ f′
       go true e same =
           record {
             laid = rw same (laid-line l u (lineOf (asOffer o)));
+            flagged = took .flagged;
             after = λ rest s d c g short fits ne.
                 rw (elected-off (netOf ws) d (asAt ws u) s ne (asOffer o) (elects g), ← own-pair g, e, same)
                 (put-holds g r (s .waiting) (λ k i. refl) (g .waiting));
           }
       go false e sent =
           record {
-            laid = laid-room (laid-line l u (lineOf (asOffer o))) r′ (sent .long) (λ i g. sent .below i (omega arith));
+            laid = laid-room (laid-line l u (lineOf (asOffer o))) r′ (sent .long) (λ i g. sent .below i (omega arith)) (sent .above);
+            flagged = took .flagged;
             after = λ rest s d c g short fits ne.
                 let few = best-short (netOf ws) d 1 most c (λ a. s .held (a .direction)) (λ a. short (a .direction)) (asAt ws u) in
                 let narrow : o .pair .length < 268435456 = omega (arith, ap (λ (y : Offer). y .pair .length) (elects g)) in
@@ -211,94 +222,3 @@ module _ {ws : List ℕ} {m : ℕ} {t r : List ℕ} (l : Laid ws m t r) {u : ℕ
                 (put-holds g r′ _ (λ k i. sent .below (2 * m + k) (omega arith))
                 (sent-waiting l h (typed .0) narrow sent (s .waiting) (g .waiting)));
           }
-
--- A delivery ----------------------------------------------------------------------------------------------------------------
-
-abbrev pub moved : ℕ → List ℕ → ℕ → List ℕ
-moved m r k = set (set r (2 * m + k) (waitAt m r k)) (4 * m + k) 0
-
-module _ {ws : List ℕ} {m d k : ℕ} {t r : List ℕ} (g : Delivering ws m d k t r) where
-  l : Laid ws m t r
-  l = g .laid
-
-  pub two-puts : {q v : List ℕ} {w : ℕ} → w ≡ waitAt m r k → q ≡ set r (2 * m + k) w → v ≡ set q (4 * m + k) 0 → v ≡ moved m r k
-  two-puts {q} {v} {w} e f h = h ∙ ap (λ (x : List ℕ). set x (4 * m + k) 0) (f ∙ ap (set r (2 * m + k)) e)
-
-  moved-word : (i : ℕ) → i ≢ 2 * m + k → i ≢ 4 * m + k → getD (moved m r k) i 0 ≡ getD r i 0
-  moved-word i p q =
-      getD-set-other (set r (2 * m + k) (waitAt m r k)) (4 * m + k) i 0 0 q
-      ∙ getD-set-other r (2 * m + k) i (waitAt m r k) 0 p
-
-  moved-laid : Laid ws m t (moved m r k)
-  unfolding l
-  moved-laid =
-      let i = g .direction in
-      laid-room l (moved m r k) (simp length-set) (λ j h. moved-word j (λ e. omega arith) (λ e. omega arith))
-
-  -- the pair that waited is held now, and nothing waits
-  moved-holds : {rest : List ℕ} {s : State} (p : TypeLength) → Holds ws m rest s t r → s .waiting k ≡ waits p
-      → Holds ws m rest (record { lines = s .lines; held = changed (s .held) k p; waiting = changed (s .waiting) k nothing }) t (moved m r k)
-  unfolding l
-  moved-holds {rest} {s} p h w =
-      record {
-        lines = h .lines;
-        held = λ j i. held j i (ℕ-discrete j k);
-        waiting = λ j i. waiting j i (ℕ-discrete j k);
-      }
-    where
-      held : (j : ℕ) → j < 2 * m → Dec (j ≡ k) → pairOf (heldAt m (moved m r k) j) ≡ changed (s .held) k p j
-      held j i (yes e) =
-          let room = l .room in
-          let first = getD-set-other (set r (2 * m + k) (waitAt m r k)) (4 * m + k) (2 * m + k) 0 0 (λ f. omega (arith, g .direction)) in
-          let at = getD-set-same r (2 * m + k) (waitAt m r k) 0 (omega (arith, g .direction)) in
-          rw e (ap pairOf (first ∙ at) ∙ wait-pair (waitAt m r k) p (h .waiting k (g .direction) ∙ w) ∙ sym (changed-same (s .held) k p k refl))
-      held j i (no ne) =
-          ap pairOf (moved-word (2 * m + j) (λ f. ne (omega arith)) (λ f. omega (arith, g .direction))) ∙ h .held j i
-          ∙ sym (changed-other (s .held) k p j ne)
-
-      waiting : (j : ℕ) → j < 2 * m → Dec (j ≡ k) → waitOf (waitAt m (moved m r k) j) ≡ changed (s .waiting) k nothing j
-      waiting j i (yes e) =
-          let room = l .room in
-          let at = getD-set-same (set r (2 * m + k) (waitAt m r k)) (4 * m + k) 0 0 (simp length-set (omega (arith, g .direction))) in
-          rw e (ap waitOf at ∙ sym (changed-same (s .waiting) k nothing k refl))
-      waiting j i (no ne) =
-          ap waitOf (moved-word (4 * m + j) (λ f. omega arith) (λ f. ne (omega arith))) ∙ h .waiting j i
-          ∙ sym (changed-other (s .waiting) k nothing j ne)
-
-  -- q is the room then, and who hears over direction k elects
-  module _ (q : List ℕ) (now : q ≡ moved m r k) (w : Way) (is : w ≡ wayAt (linksOf ws) q k) where
-    pub now-laid : Laid ws m t q
-    now-laid = rw now moved-laid
-
-    pub hearer-in : w .hearer < asesIn ws
-    hearer-in = rw is (laid-way now-laid k (g .direction) .hearer-in)
-
-    hears : asAt ws (w .hearer) ≡ receiver (netOf ws) k
-    hears =
-        let i = g .direction in
-        let a = arcAt (linksOf ws) k in
-        rw is (laid-way now-laid k i .hearer)
-        ∙ sym (receiver-is (netOf ws) (direction-unique (linksOf ws)) a (laid-arc now-laid k i))
-        ∙ ap (receiver (netOf ws)) (laid-direction now-laid k i)
-
-    pub deliver-home : w .hearer ≡ d → Delivered ws m d k t r t q
-    unfolding deliver elected
-    deliver-home e =
-        let home : receiver (netOf ws) k ≡ asAt ws d = sym hears ∙ ap (asAt ws) e in
-        record {
-          laid = now-laid;
-          after = λ rest s p b h f short long fits.
-              rw (now, eq-eqb (receiver (netOf ws) k) (asAt ws d) home) (moved-holds p h f);
-        }
-
-    pub deliver-anew : w .hearer ≢ d → {t′ r′ : List ℕ} → Anew ws m t q (w .hearer) t′ r′ → Delivered ws m d k t r t′ r′
-    unfolding deliver
-    deliver-anew ne a =
-        let off : asAt ws (w .hearer) ≢ asAt ws d = (λ e. ne (as-place ws (w .hearer) d hearer-in (g .destination) e)) in
-        record {
-          laid = a .laid;
-          after = λ rest s p b h f short long fits.
-              rw (← hears)
-              (a .after rest _ (asAt ws d) b (rw now (moved-holds p h f))
-              (λ j. by-changed (λ (x : TypeLength). x .length ≤ b) (s .held) k p long j (short j)) fits off);
-        }

@@ -5,7 +5,7 @@
 --   networkFault, memoryFault   what is left of the verdict: 7, 8 and 13; 8 and 13
 --   NetworkAnswer, MemoryAnswer, RunAnswer   what is left to answer
 --   Looking, Located, Driving   an accepted list of links; with the destination's place; with memory and choices that pass
---   Driven ws m place cs n t c t′ r′   table and room hold the whole run, which c counts
+--   Driven ws m place cs n t c t′ r′ f′   table and room hold the whole run, which c counts
 use Prim.Native.Nat.{ℕ, _*_, _≤_, _<_}
 use mathlib.Core.Path.{_≡_}
 use mathlib.Core.List.{List}
@@ -20,7 +20,7 @@ use Rattle.rules.specs.Stable.{tableOf}
 use Rattle.machine.specs.declared.Ran.{Ran}
 use Rattle.machine.specs.declared.Counts.{Counts}
 use Rattle.machine.specs.Entries.{choiceFault, runOn, replyRun, runReply, tableAfter, roomAfter}
-use Rattle.machine.specs.Room.{asesIn, asAt, Laid}
+use Rattle.machine.specs.Room.{asesIn, asAt, Flagged, Laid}
 use Rattle.machine.specs.Runs.{Reached}
 use Rattle.machine.specs.Start.{Starting}
 
@@ -71,6 +71,7 @@ pub record Driving (ws : List ℕ) (m : ℕ) (list : List ℕ) (most place : ℕ
   pub few-choices : length cs ≤ 65536
   pub deliveries : n ≤ 65536
 
-pub record Driven (ws : List ℕ) (m place : ℕ) (cs : List ℕ) (n : ℕ) (t : List ℕ) (c : Counts) (t′ r′ : List ℕ) : Type 0 where
+pub record Driven (ws : List ℕ) (m place : ℕ) (cs : List ℕ) (n : ℕ) (t : List ℕ) (c : Counts) (t′ r′ f′ : List ℕ) : Type 0 where
   pub laid : Laid ws m t′ r′
+  pub flagged : Flagged m r′ f′
   pub reached : Reached ws m (drop (4 * asesIn ws) t) (runOn ws (asAt ws place) cs n) c t′ r′

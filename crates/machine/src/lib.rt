@@ -4,6 +4,8 @@ ghost use Rattle.machine.specs.Answers.{Answered};
 use rules::Checked;
 use rules::Refusal;
 
+mod blocks;
+mod index;
 mod look;
 mod room;
 mod runs;

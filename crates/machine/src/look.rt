@@ -1,9 +1,11 @@
 // The refusals in their order, each before a lent word is written, and then the run.
 ghost use mathlib.Core.Path.{_≡_};
+ghost use lib.ListN.{length};
 ghost use Rattle.machine.specs.Entries.{choiceFault};
 ghost use Rattle.machine.specs.Answers.{NetworkAnswer, MemoryAnswer, RunAnswer, Looking, Located, Driving, Driven};
 use super::Counts;
 use super::Ran;
+use super::blocks;
 use super::room;
 use super::runs;
 use super::start;
@@ -38,13 +40,14 @@ fn drive(
     further: u32,
     table: &mut [u32],
     room: &mut [u32],
+    flags: &mut [u32; 64],
 ) -> Counts
-    requires { ⌜ Driving (now words) m (now list) n destination (now choices) further (now table) (now room) ⌝ }
-    ensures { λ c. ⌜ Driven (now (words .entry)) m destination (now (choices .entry)) further (now (table .entry)) c (now (table .exit)) (now (room .exit)) ⌝ }
+    requires { ⌜ Driving (now words) m (now list) n destination (now choices) further (now table) (now room) × (length (now flags) ≡ 64) ⌝ }
+    ensures { λ c. ⌜ Driven (now (words .entry)) m destination (now (choices .entry)) further (now (table .entry)) c (now (table .exit)) (now (room .exit)) (now (flags .exit)) ⌝ }
 {
-    start::fresh(words, m, list, n, destination, table, room);
-    let chosen = runs::take_choices(words, m, destination, table, room, choices);
-    runs::go_on(words, m, destination, table, room, further, chosen)
+    start::fresh(words, m, list, n, destination, table, room, flags);
+    let chosen = runs::take_choices(words, m, destination, table, room, flags, choices);
+    runs::go_on(words, m, destination, table, room, flags, further, chosen)
 }
 
 // The same with its reply, and the room cleared.
@@ -62,6 +65,7 @@ fn answer(
     requires { ⌜ Driving (now words) m (now list) n destination (now choices) further (now table) (now room) ⌝ }
     ensures { λ r. ⌜ RunAnswer (now (words .entry)) destination (now (choices .entry)) further (now (table .entry)) (now (room .entry)) r (now (table .exit)) (now (room .exit)) ⌝ }
 {
+    let mut flags = [0u32; 64];
     let counts = drive(
         words,
         m,
@@ -72,8 +76,9 @@ fn answer(
         further,
         table,
         room,
+        &mut flags,
     );
-    let quiet = room::first_waiting(room, m) == 2 * m;
+    let quiet = blocks::first_waiting(room, &mut flags, m) == 2 * m;
     network::clear(room);
     Ran::Ran(counts.made, counts.idle, quiet)
 }

@@ -5,7 +5,8 @@ ghost use mathlib.Core.List.{_++_};
 ghost use lib.ListN.{length, take, drop, set};
 ghost use Rattle.rules.specs.Stable.{tableOf};
 ghost use Rattle.offers.specs.Lines.{putLine};
-ghost use Rattle.machine.specs.Start.{freshLines, Blank, Starting, Started};
+ghost use Rattle.machine.specs.Start.{freshLines, Blank, Readying, Ready, Starting, Started};
+use super::index;
 use super::room;
 use offers::WORDS_PER_ENTRY;
 use rules::TypeLength;
@@ -56,6 +57,16 @@ fn lay_pairs(room: &mut [u32], m: usize)
     }
 }
 
+// The room of m links, whose ASes are the first n words of a list: places, blank directions, index.
+fn lay_room(words: &[u32], m: usize, list: &[u32], n: usize, room: &mut [u32])
+    requires { ⌜ Readying (now words) m (now list) n (now room) ⌝ }
+    ensures { λ _. ⌜ Ready (now (words .entry)) m (now (room .exit)) ⌝ }
+{
+    offers::place_ends(words, list, n, room);
+    lay_pairs(room, m);
+    index::lay_index(room, m, n);
+}
+
 // The fresh start of m links, whose ASes are the first n words of a list, with the destination at a place among them.
 pub fn fresh(
     words: &[u32],
@@ -65,12 +76,18 @@ pub fn fresh(
     destination: usize,
     table: &mut [u32],
     room: &mut [u32],
+    flags: &mut [u32; 64],
 )
-    requires { ⌜ Starting (now words) m (now list) n destination (now table) (now room) ⌝ }
-    ensures { λ _. ⌜ Started (now (words .entry)) m destination (now (table .entry)) (now (table .exit)) (now (room .exit)) ⌝ }
+    requires { ⌜ Starting (now words) m (now list) n destination (now table) (now room) × (length (now flags) ≡ 64) ⌝ }
+    ensures { λ _. ⌜ Started (now (words .entry)) m destination (now (table .entry)) (now (table .exit)) (now (room .exit)) (now (flags .exit)) ⌝ }
 {
     lay_lines(table, list, n, list[destination]);
-    offers::place_ends(words, list, n, room);
-    lay_pairs(room, m);
-    room::send(room, m, destination, room::pack_pair(TypeLength::ORIGIN));
+    lay_room(words, m, list, n, room);
+    room::send(
+        room,
+        flags,
+        m,
+        destination,
+        room::pack_pair(TypeLength::ORIGIN),
+    );
 }

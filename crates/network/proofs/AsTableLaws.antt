@@ -11,9 +11,9 @@ use Rattle.rules.specs.Lists.{In}
 use Rattle.rules.specs.Network.{insert}
 use Rattle.network.specs.Slots.{slot, filled, Stopped, Stored}
 use Rattle.network.specs.Tables.{asHome, isAs, Counted, Open, Noted}
-use Rattle.network.proofs.Numbers.{same?}
-use Rattle.rules.proofs.Ascending.{insert-in, insert-keeps, insert-only, insert-ascending}
+use Rattle.rules.proofs.Ascending.{insert-only, insert-ascending}
 use Rattle.network.proofs.InsertLaws.{insert-there, insert-new}
+use Rattle.network.proofs.MetLaws.{met-put}
 use Rattle.network.proofs.SlotLaws.{filled-set, filled-none, slot-none, set-here, set-other, put, absent, stopped-hit, at-home, never}
 
 -- a search for x stopped at r
@@ -64,11 +64,7 @@ module _ {homes x n h r : ℕ} {t : List ℕ} (pos : 0 < x) (o : Open homes t n 
                 (λ e. record { place = r; is = set-here t r x r (p .within) refl ∙ sym e; some = λ f. omega arith })
                 (λ j. kept (k .held y j))
                 (insert-only x y l i);
-            only = λ s ns. ⊎-elim
-                (λ e. subst (λ (y : ℕ). In y (insert x l)) (sym (set-here t r x s (p .within) e)) (insert-in x l))
-                (λ ne. let q : slot (set t r x) s ≡ slot t s = set-other t r x s ne in
-                subst (λ (y : ℕ). In y (insert x l)) (sym q) (insert-keeps x (slot t s) l (k .only s (λ f. ns (q ∙ f)))))
-                (same? s r);
+            only = met-put {t = t} {known = l} (record { only = k .only }) r x .only;
             full = omega (arith, one-more, k .count);
             count = omega (arith, k .count);
             ascending = insert-ascending x l (k .ascending);

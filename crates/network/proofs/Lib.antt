@@ -5,6 +5,7 @@ pub mod PlaceLaws
 pub mod PrefixLaws
 pub mod ListedLaws
 pub mod SlotLaws
+pub mod MetLaws
 pub mod AsTableLaws
 pub mod PairTableLaws
 pub mod StepLaws

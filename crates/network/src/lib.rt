@@ -6,6 +6,7 @@ ghost use Rattle.rules.specs.Network.{linksOf, linkAt, asesOf};
 ghost use Rattle.rules.specs.Checks.{baseLimits, checkWords, roomNeed};
 ghost use Rattle.rules.specs.Ascending.{Ascending};
 ghost use Rattle.network.specs.Promises.{HasLink, Fresh, Stands, Listed};
+ghost use Rattle.network.specs.Tables.{asHome};
 use rules::Checked;
 use rules::Limits;
 use rules::Link;
@@ -60,17 +61,25 @@ pub fn check_links(words: &[u32]) -> Checked
     check_with(words, Limits::BASE, &mut seats, &mut pairs)
 }
 
+// The slot of an AS among 4,096.
+pub fn slot_of(x: u32) -> usize
+    ensures { λ r. ⌜ (r ≡ asHome 4096 x) × (r < 4096) ⌝ }
+{
+    slots::as_home(x, 4096)
+}
+
 // The ASes of the links, ascending, in the first words of a lent list, and how many they are. The other words stay.
 pub fn list_ases(words: &[u32], list: &mut [u32]) -> usize
     requires { ⌜ length (asesOf (linksOf (now words))) ≤ length (now list) ⌝ }
     ensures { λ r. ⌜ Listed (asesOf (linksOf (now (words .entry)))) (now (list .entry)) (now (list .exit)) r ⌝ }
 {
     let m = words.len() / WORDS_PER_LINK;
+    let mut met = [0u32; 4096];
     let mut i = 0;
     let mut n = 0;
     while i < m {
         let l = link_at(words, i);
-        n = sorted::insert_ends(list, n, l);
+        n = sorted::meet_ends(list, &mut met, n, l);
         i += 1;
     }
     n

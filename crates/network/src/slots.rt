@@ -18,7 +18,7 @@ fn spread(m: u64, homes: usize) -> usize
 }
 
 // Where the search for an AS begins.
-fn as_home(x: u32, homes: usize) -> usize
+pub fn as_home(x: u32, homes: usize) -> usize
     requires { ⌜ Homed homes ⌝ }
     ensures { λ r. ⌜ (r ≡ asHome homes x) × (r < homes) ⌝ }
 {

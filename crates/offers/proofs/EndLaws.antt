@@ -52,12 +52,15 @@ module _ {l : List ℕ} {n x : ℕ} (a : Among l n x) where
 
 -- the ends of the links are among the first n words, which ascend
 module _ {ws l : List ℕ} {n : ℕ} {ps : List ℕ} (w : Placing ws l n ps) where
+  pub ases-within : n ≤ length l
+  ases-within = omega (arith, simp length-take at (ap length (w .list)), w .count)
+
   pub ends-among : (i x : ℕ) → i < length (linksOf ws) → Ends x (linkAt ws i) → Among l n x
   ends-among i x h e =
       let is = links-at ws i (omega (arith, count ws)) in
       let m : In (linkAt ws i) (linksOf ws) = rw is at (at-in noLink (linksOf ws) i h) in
       record {
-        within = omega (arith, simp length-take at (ap length (w .list)), w .count);
+        within = ases-within;
         few = w .few;
         ascending = rw (w .list) (ases-ascending (linksOf ws));
         member = rw (w .list) (ases-in (linksOf ws) x (linkAt ws i) m e);

@@ -19,11 +19,12 @@ use Rattle.offers.specs.declared.Offered.{Offered}
 use Rattle.offers.specs.Lines.{numberAt, pairAt, lineAt, putLine, printed}
 use Rattle.offers.specs.Ways.{noArc, arcAt, wayAt}
 use Rattle.offers.specs.Passes.{asOffer}
-use Rattle.offers.specs.Steps.{offerOf, OverWay, Telling, Considered}
-use Rattle.offers.specs.Electing.{offerAt, bestAfter, withHeard, Hearing}
+use Rattle.offers.specs.Steps.{offerOf, OverWay, toldOver, Telling}
+use Rattle.offers.specs.Electing.{offerAt, keepBetter, bestAfter, withHeard, Hearer, Hearing}
 use Rattle.offers.proofs.PlaceLaws.{places-length}
 use Rattle.offers.proofs.WayLaws.{WayArc, way-arc, way-over}
 use Rattle.offers.proofs.TableLaws.{table-length, table-line, table-put, printed-at}
+use Rattle.offers.proofs.ConsiderLaws.{considered}
 use Rattle.offers.proofs.ElectLaws.{take-in, best-own, best-other, best-line, best-fair}
 
 module _ {ls : List Link} {ps t b : List ℕ} {k : ℕ} (w : Hearing ls ps t b k) where
@@ -57,9 +58,6 @@ module _ {ls : List Link} {ps t b : List ℕ} {k : ℕ} (w : Hearing ls ps t b k
     on : WayArc (asesOf ls) r (arcAt ls k)
     on = rw is (way-arc ls ps (w .pass .placed) k (w .within))
 
-    pub hearer-fits : 4 * r .hearer + 4 ≤ length b
-    hearer-fits = omega (arith, on .hearer-in, best-long)
-
     -- the hearer's entry
     line-is : lineAt b (r .hearer) ≡ lineOf (sofar (arcAt ls k .hearer))
     unfolding sofar tells
@@ -74,16 +72,20 @@ module _ {ls : List Link} {ps t b : List ℕ} {k : ℕ} (w : Hearing ls ps t b k
         ap (λ (l : Line). asOffer (offerOf (l .pair) (l .next))) line-is
         ∙ best-line tells (arcAt ls k .hearer) (take k (arcsOf ls)) ranked
 
-    pub telling : Telling (offerAt b (r .hearer)) r t
+    pub hearer : Hearer b r
     unfolding sofar
-    telling =
-        record {
-          within = omega (arith, on .neighbour-in, w .pass .room);
-          fits = omega (arith, ap (λ (x : Way). x .cost) is, w .pass .wide .short (r .neighbour) (on .neighbour-in));
-          fair =
-              rw (ap (λ (l : Line). offerOf (l .pair) (l .next)) line-is)
-              (best-fair tells (arcAt ls k .hearer) (take k (arcsOf ls)) ranked);
-        }
+    hearer = record {
+      within = omega (arith, on .hearer-in, best-long);
+      fair =
+          rw (ap (λ (l : Line). offerOf (l .pair) (l .next)) line-is)
+          (best-fair tells (arcAt ls k .hearer) (take k (arcsOf ls)) ranked);
+    }
+
+    pub telling : Telling r t
+    telling = record {
+      within = omega (arith, on .neighbour-in, w .pass .room);
+      fits = omega (arith, ap (λ (x : Way). x .cost) is, w .pass .wide .short (r .neighbour) (on .neighbour-in));
+    }
 
     -- the neighbour's
     tells-is : tells (arcAt ls k) ≡ pairAt t (r .neighbour)
@@ -97,31 +99,34 @@ module _ {ls : List Link} {ps t b : List ℕ} {k : ℕ} (w : Hearing ls ps t b k
     over =
         rw is (way-over ls ps (w .pass .placed) k (w .within) (w .pass .numbers (wayAt ls ps k .neighbour) (way-arc ls ps (w .pass .placed) k (w .within) .neighbour-in)))
 
-    module _ {new : Offered} (chosen : Considered (offerAt b (r .hearer)) r (numberAt t (r .neighbour)) (pairAt t (r .neighbour)) new) where
-      within : k < length (arcsOf ls)
-      within = omega (arith, arcs-length 0 ls, w .within)
+    -- the better of the two
+    abbrev chosen : Offer
+    chosen = choose (asOffer (offerAt b (r .hearer))) (asOffer (toldOver t r))
 
-      own : bestAfter ls t (length (asesOf ls)) (k + 1) (getD (asesOf ls) (r .hearer) 0) ≡ lineOf (asOffer new)
-      unfolding sofar tells
-      own =
-          ap (bestAfter ls t (length (asesOf ls)) (k + 1)) (on .hearer)
-          ∙ ap lineOf
-          (best-own tells (arcAt ls k .hearer) (arcsOf ls) noArc k within refl
-          ∙ ap (λ (o : Offer). choose o (offer (arcAt ls k) (tells (arcAt ls k)))) (sym held-is)
-          ∙ ap (λ (p : TypeLength). choose (asOffer (offerAt b (r .hearer))) (offer (arcAt ls k) p)) tells-is
-          ∙ sym (chosen .chosen (arcAt ls k) over))
+    within : k < length (arcsOf ls)
+    within = omega (arith, arcs-length 0 ls, w .within)
 
-      other : (v : ℕ) → v ≢ getD (asesOf ls) (r .hearer) 0
-          → bestAfter ls t (length (asesOf ls)) (k + 1) v ≡ bestAfter ls t (length (asesOf ls)) k v
-      unfolding tells
-      other v ne = ap lineOf (best-other tells v (arcsOf ls) noArc k within (λ e. ne (sym (on .hearer ∙ e))))
+    own : bestAfter ls t (length (asesOf ls)) (k + 1) (getD (asesOf ls) (r .hearer) 0) ≡ lineOf chosen
+    unfolding sofar tells
+    own =
+        let o : Offered = record { pair = chosen .pair; rank = chosen .rank; next = chosen .next } in
+        ap (bestAfter ls t (length (asesOf ls)) (k + 1)) (on .hearer)
+        ∙ ap lineOf
+        (best-own tells (arcAt ls k .hearer) (arcsOf ls) noArc k within refl
+        ∙ ap (λ (o : Offer). choose o (offer (arcAt ls k) (tells (arcAt ls k)))) (sym held-is)
+        ∙ ap (λ (p : TypeLength). choose (asOffer (offerAt b (r .hearer))) (offer (arcAt ls k) p)) tells-is
+        ∙ sym (considered (hearer .fair) refl {r = o} refl .chosen (arcAt ls k) over))
 
-      pub heard-more : putLine b (r .hearer) (lineOf (asOffer new))
-          ≡ withHeard ls t (k + 1) b
-      unfolding rest
-      heard-more =
-          let R = bestAfter ls t (length (asesOf ls)) k in
-          let S = bestAfter ls t (length (asesOf ls)) (k + 1) in
-          ap (λ (q : List ℕ). putLine q (r .hearer) (lineOf (asOffer new))) split
-          ∙ ap (λ (l : Line). putLine (tableOf R (asesOf ls) ++ rest) (r .hearer) l) (sym own)
-          ∙ table-put R rest S (asesOf ls) (ases-distinct ls) (r .hearer) (on .hearer-in) other
+    other : (v : ℕ) → v ≢ getD (asesOf ls) (r .hearer) 0
+        → bestAfter ls t (length (asesOf ls)) (k + 1) v ≡ bestAfter ls t (length (asesOf ls)) k v
+    unfolding tells
+    other v ne = ap lineOf (best-other tells v (arcsOf ls) noArc k within (λ e. ne (sym (on .hearer ∙ e))))
+
+    pub heard-more : keepBetter b (r .hearer) (toldOver t r) ≡ withHeard ls t (k + 1) b
+    unfolding rest
+    heard-more =
+        let R = bestAfter ls t (length (asesOf ls)) k in
+        let S = bestAfter ls t (length (asesOf ls)) (k + 1) in
+        ap (λ (q : List ℕ). putLine q (r .hearer) (lineOf chosen)) split
+        ∙ ap (λ (l : Line). putLine (tableOf R (asesOf ls) ++ rest) (r .hearer) l) (sym own)
+        ∙ table-put R rest S (asesOf ls) (ases-distinct ls) (r .hearer) (on .hearer-in) other

@@ -81,8 +81,8 @@ module _ {ls : List Link} {t : List ℕ} {k : ℕ} {old new : List ℕ} (e : Hea
   heard-long h =
       omega (arith, simp (length-append, length-drop) at (ap length (e .words)), table-length (bestAfter ls t (length (asesOf ls)) k) (asesOf ls))
 
-  pub heard-next : {newer : List ℕ} → newer ≡ withHeard ls t (k + 1) new → HeardAt ls t (k + 1) old newer
-  heard-next f = record { words = rw heard-rest at f }
+  pub heard-next : (j : ℕ) {newer : List ℕ} → newer ≡ withHeard ls t j new → HeardAt ls t j old newer
+  heard-next j f = record { words = rw heard-rest at f }
 
   module _ {ps : List ℕ} {n : ℕ} (w : Electing ls ps t n) where
     pub hearing : k < 2 * length ls → Hearing ls ps t new k
@@ -95,6 +95,21 @@ module _ {ls : List Link} {t : List ℕ} {k : ℕ} {old new : List ℕ} (e : Hea
         ∙ rw (w .count)
         (ap (λ (net : List Arc). tableOf (λ u. lineOf (best (told (printed (length (asesOf ls)) t)) u net)) (asesOf ls) ++ drop (4 * length (asesOf ls)) old)
         (take-all k (arcsOf ls) (omega (arith, arcs-length 0 ls))))
+
+-- both directions of link i
+module _ {ls : List Link} {ps t b u : List ℕ} (i : ℕ) (w : Hearing ls ps t b (2 * i)) (e : u ≡ withHeard ls t (2 * i + 1) b) where
+  there : HeardAt ls t (2 * i + 1) b u
+  there = record { words = e }
+
+  pub hearing-back : Hearing ls ps t u (2 * i + 1)
+  hearing-back = hearing there (w .pass) (omega (arith, w .within))
+
+  pub heard-both : {v : List ℕ} → v ≡ withHeard ls t (2 * i + 1 + 1) u → v ≡ withHeard ls t (2 * i + 2) b
+  heard-both f = let two : 2 * i + 1 + 1 ≡ 2 * i + 2 = omega arith in heard-next there (2 * i + 2) (rw two at f) .words
+
+pub link-next : {ls : List Link} {t old new newer : List ℕ} (i : ℕ) → HeardAt ls t (2 * i) old new → newer ≡ withHeard ls t (2 * i + 2) new
+    → HeardAt ls t (2 * (i + 1)) old newer
+link-next i e f = let two : 2 * i + 2 ≡ 2 * (i + 1) = omega arith in heard-next e (2 * (i + 1)) (rw two at f)
 
 -- before the first
 module _ {ls : List Link} {ps t : List ℕ} {n : ℕ} (w : Electing ls ps t n) {old new : List ℕ} (e : NoneAt t n old new) where

@@ -93,10 +93,12 @@ pub fn place_ends(words: &[u32], list: &[u32], n: usize, places: &mut [u32])
     requires { ⌜ Placing (now words) (now list) n (now places) ⌝ }
     ensures { λ _. ⌜ now (places .exit) ≡ withPlaces (linksOf (now (words .entry))) (now (places .entry)) ⌝ }
 {
+    let mut hints = [0u32; 4096];
+    ends::put_hints(list, n, &mut hints);
     let m = words.len() / WORDS_PER_LINK;
     let mut i = 0;
     while i < m {
-        ends::place_link(words, list, n, places, i);
+        ends::place_link(words, list, n, &hints, places, i);
         i += 1;
     }
 }
@@ -132,16 +134,16 @@ pub fn consider(best: Offered, way: Way, from: u32, told: TypeLength) -> Offered
     if new.wins(best) { new } else { best }
 }
 
-// Every AS's line as the best offer that the first n lines of a table give it, the others as told. One pass over the directions.
+// Every AS's line as the best offer that the first n lines of a table give it, the others as told. One pass over the links.
 pub fn elect_links(words: &[u32], places: &[u32], told: &[u32], best: &mut [u32], n: usize)
     requires { ⌜ Electing (linksOf (now words)) (now places) (now told) n × (4 * n ≤ length (now best)) ⌝ }
     ensures { λ _. ⌜ now (best .exit) ≡ withOffers (linksOf (now (words .entry))) (now (told .entry)) n (now (best .entry)) ⌝ }
 {
     pass::put_nones(told, best, n);
-    let m = 2 * (words.len() / WORDS_PER_LINK);
-    let mut k = 0;
-    while k < m {
-        pass::hear(words, places, told, best, k);
-        k += 1;
+    let m = words.len() / WORDS_PER_LINK;
+    let mut i = 0;
+    while i < m {
+        pass::hear_link(words, places, told, best, i);
+        i += 1;
     }
 }

@@ -1,13 +1,15 @@
-// The pass that finds every AS's best offer: a table without offers, then one direction after the other.
+// The pass that finds every AS's best offer: a table without offers, then one link after the other. A line is stored only where an offer
+// wins, and offers are compared only where the neighbour's type goes on over the link.
 ghost use Prim.Native.Nat.{_+_, _*_, _≤_};
 ghost use mathlib.Core.Path.{_≡_};
+ghost use mathlib.Core.Bool.{true};
 ghost use mathlib.Core.List.{_++_};
 ghost use lib.ListN.{length, drop};
 ghost use Rattle.rules.specs.Network.{linksOf};
 ghost use Rattle.rules.specs.Stable.{lost, tableOf};
-ghost use Rattle.offers.specs.Lines.{numberAt, pairAt};
-ghost use Rattle.offers.specs.Steps.{Telling, Considered};
-ghost use Rattle.offers.specs.Electing.{numbersOf, offerAt, putNone, withHeard, Hearing};
+ghost use Rattle.offers.specs.Lines.{typeAt};
+ghost use Rattle.offers.specs.Steps.{goesOn, toldOver, Telling};
+ghost use Rattle.offers.specs.Electing.{numbersOf, offerAt, putNone, keepBetter, withHeard, Hearer, Hearing};
 use crate::Offered;
 use crate::WORDS_PER_ENTRY;
 use crate::Way;
@@ -42,22 +44,58 @@ pub fn offer_at(t: &[u32], i: usize) -> Offered
     crate::offer_of(crate::pair_at(t, i), crate::next_at(t, i))
 }
 
-// The better of an offer and what the neighbour's line gives over a direction.
-pub fn consider_line(best: Offered, way: Way, told: &[u32]) -> Offered
-    requires { ⌜ Telling best way (now told) ⌝ }
-    ensures { λ r. ⌜ Considered best way (numberAt (now (told .entry)) (way .neighbour)) (pairAt (now (told .entry)) (way .neighbour)) r ⌝ }
+// Entry i keeps the better of its offer and another.
+pub fn keep_better(t: &mut [u32], i: usize, new: Offered)
+    requires { ⌜ 4 * i + 4 ≤ length (now t) ⌝ }
+    ensures { λ _. ⌜ now (t .exit) ≡ keepBetter (now (t .entry)) i new ⌝ }
 {
-    let from = crate::number_at(told, way.neighbour);
-    crate::consider(best, way, from, crate::pair_at(told, way.neighbour))
+    if new.wins(offer_at(t, i)) {
+        crate::put_line(t, i, new.pair, new.next);
+    }
 }
 
-// The hearer of direction k considers what it is told over it.
-pub fn hear(words: &[u32], places: &[u32], told: &[u32], best: &mut [u32], k: usize)
-    requires { ⌜ Hearing (linksOf (now words)) (now places) (now told) (now best) k ⌝ }
-    ensures { λ _. ⌜ now (best .exit) ≡ withHeard (linksOf (now (words .entry))) (now (told .entry)) (k + 1) (now (best .entry)) ⌝ }
+// Whether a neighbour's type goes on over a link of this kind: over a provider link every reachable one, over another type 1 alone.
+pub fn goes_on(kind: u32, typ: u32) -> bool
+    ensures { λ r. ⌜ r ≡ goesOn kind typ ⌝ }
 {
-    let way = crate::way_at(words, places, k);
-    let held = offer_at(best, way.hearer);
-    let new = consider_line(held, way, told);
-    crate::put_line(best, way.hearer, new.pair, new.next);
+    if kind == 3 {
+        return (1 <= typ) & (typ <= 3);
+    }
+    ((kind == 1) | (kind == 2)) & (typ == 1)
+}
+
+// What the neighbour's line gives over a direction that it goes on over: the kind is its type.
+pub fn told_over(told: &[u32], way: Way) -> Offered
+    requires { ⌜ Telling way (now told) × (goesOn (way .kind) (typeAt (now told) (way .neighbour)) ≡ true) ⌝ }
+    ensures { λ r. ⌜ r ≡ toldOver (now (told .entry)) way ⌝ }
+{
+    let pair = crate::pair_at(told, way.neighbour);
+    let gone = TypeLength {
+        typ: way.kind,
+        length: pair.length + way.cost,
+    };
+    crate::offer_of(gone, crate::number_at(told, way.neighbour))
+}
+
+// The hearer of a direction keeps the better of its offer and what it is told, which wins only if it goes on.
+pub fn hear_over(told: &[u32], best: &mut [u32], way: Way)
+    requires { ⌜ Telling way (now told) × Hearer (now best) way ⌝ }
+    ensures { λ _. ⌜ now (best .exit) ≡ keepBetter (now (best .entry)) (way .hearer) (toldOver (now (told .entry)) way) ⌝ }
+{
+    let pair = crate::pair_at(told, way.neighbour);
+    if goes_on(way.kind, pair.typ) {
+        keep_better(best, way.hearer, told_over(told, way));
+    }
+}
+
+// Both directions of link i.
+pub fn hear_link(words: &[u32], places: &[u32], told: &[u32], best: &mut [u32], i: usize)
+    requires { ⌜ Hearing (linksOf (now words)) (now places) (now told) (now best) (2 * i) ⌝ }
+    ensures { λ _. ⌜ now (best .exit) ≡ withHeard (linksOf (now (words .entry))) (now (told .entry)) (2 * i + 2) (now (best .entry)) ⌝ }
+{
+    let k = 2 * i;
+    let there = crate::way_at(words, places, k);
+    hear_over(told, best, there);
+    let back = crate::way_at(words, places, k + 1);
+    hear_over(told, best, back);
 }

@@ -14,6 +14,7 @@ pub mod Ascending
 pub mod NetworkLaws
 pub mod ArcLaws
 pub mod AcceptedLinks
+pub mod RefusalPlaces
 pub mod MachineLaws
 pub mod MachineRuns
 pub mod MachineCounts

@@ -1,4 +1,5 @@
 pub mod LineLaws
+pub mod GuessLaws
 pub mod StepLaws
 pub mod WordLaws
 pub mod LookLaws
@@ -6,4 +7,5 @@ pub mod CloseLaws
 pub mod PhaseLaws
 pub mod NearLaws
 pub mod WholeLaws
+pub mod AgreedLaws
 pub mod FillLaws

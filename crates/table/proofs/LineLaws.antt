@@ -1,16 +1,18 @@
 -- Table words after one line was put in: the entry has it, and every other word is what it was.
---
---   Framed n t u       u is t in length, in the numbers and next hops of its entries, and beyond its first n entries
 use Prim.Native.Nat.{ℕ, _+_, _*_, _≤_, _<_}
 use mathlib.Core.Path.{_≡_, refl, _∙_}
 use mathlib.Core.Logic.{_≢_}
 use mathlib.Core.List.{List}
 use native.Mathlib.Omega.{arith}
+use native.Mathlib.Decide.{ℕ-discrete}
 use lib.ListN.{length, getD, set, length-set}
 use lib.Seq.{getD-set-same, getD-set-other}
+use Rattle.rules.specs.declared.TypeLength.{TypeLength}
 use Rattle.rules.specs.Stable.{Line}
 use Rattle.rules.proofs.OfferLaws.{pair-same}
 use Rattle.offers.specs.Lines.{numberAt, typeAt, lengthAt, nextAt, pairAt, putLine}
+use Rattle.table.specs.Guess.{Framed}
+use Rattle.table.specs.Steps.{Lined}
 
 module _ (t : List ℕ) (i : ℕ) (l : Line) where
   -- a word that is none of the line's
@@ -56,11 +58,22 @@ module _ (t : List ℕ) (i : ℕ) (l : Line) where
   pub put-other-next : (j : ℕ) → j ≢ i → nextAt (putLine t i l) j ≡ nextAt t j
   put-other-next j ne = put-word (4 * j + 3) (λ e. omega arith) (λ e. omega arith) (λ e. ne (omega arith))
 
-pub record Framed (n : ℕ) (t u : List ℕ) : Type 0 where
-  pub long : length u ≡ length t
-  pub number : (i : ℕ) → numberAt u i ≡ numberAt t i
-  pub next : (i : ℕ) → i < n → nextAt u i ≡ nextAt t i
-  pub rest : (w : ℕ) → 4 * n ≤ w → getD u w 0 ≡ getD t w 0
+-- an entry gets another pair
+pub framed-put : (n : ℕ) (t : List ℕ) (i : ℕ) (p : TypeLength) → 4 * n ≤ length t → i < n → Framed n t (putLine t i (record { pair = p; next = nextAt t i }))
+framed-put n t i p room within =
+    record {
+      long = put-length t i new;
+      number = put-number t i new;
+      next = λ j l. next j (ℕ-discrete j i);
+      rest = λ x l. put-word t i new x (λ e. omega arith) (λ e. omega arith) (λ e. omega arith);
+    }
+  where
+    new : Line
+    new = record { pair = p; next = nextAt t i }
+
+    next : (j : ℕ) → Dec (j ≡ i) → nextAt (putLine t i new) j ≡ nextAt t j
+    next j (yes e) = rw e (put-next t i new (omega arith))
+    next j (no ne) = put-other-next t i new j ne
 
 pub framed-same : {n : ℕ} (t : List ℕ) → Framed n t t
 framed-same t = record { long = refl; number = λ i. refl; next = λ i l. refl; rest = λ w l. refl }
@@ -73,3 +86,20 @@ framed-more a b =
       next = λ i l. b .next i l ∙ a .next i l;
       rest = λ w l. b .rest w l ∙ a .rest w l;
     }
+
+-- entries for ASes, in a table by itself, after another, and with other pairs
+module _ {us : List ℕ} {n : ℕ} {t u : List ℕ} (l : Lined us n t u) where
+  pub lined-self : Lined us n u u
+  lined-self = record { long = refl; number = l .number; next = l .next; rest = λ w h. refl }
+
+  pub lined-more : {v : List ℕ} → Lined us n u v → Lined us n t v
+  lined-more m = record { long = m .long ∙ l .long; number = m .number; next = m .next; rest = λ w h. m .rest w h ∙ l .rest w h }
+
+  pub lined-framed : {v : List ℕ} → Framed n u v → Lined us n t v
+  lined-framed f =
+      record {
+        long = f .long ∙ l .long;
+        number = λ i h. f .number i ∙ l .number i h;
+        next = λ i h. f .next i h ∙ l .next i h;
+        rest = λ w h. f .rest w h ∙ l .rest w h;
+      }

@@ -21,8 +21,9 @@ use Rattle.offers.specs.Ways.{wayAt}
 use Rattle.offers.specs.Steps.{Placed}
 use Rattle.offers.proofs.PlaceLaws.{places-length}
 use Rattle.offers.proofs.WayLaws.{way-arc}
+use Rattle.table.specs.Guess.{Framed}
 use Rattle.table.specs.Phases.{offeredAt, wants, heardOver, Joins, Taken, Reached, begun, gained, CalmBelow, weight, sum, height, Moved, Short, Ready, Passed}
-use Rattle.table.proofs.LineLaws.{put-word, put-length, put-pair, put-next, put-number, put-other-pair, put-other-next, Framed, framed-same, framed-more}
+use Rattle.table.proofs.LineLaws.{put-pair, put-other-pair, framed-put, framed-same, framed-more}
 use Rattle.table.proofs.CloseLaws.{Gain, gains-means}
 
 -- Sums ---------------------------------------------------------------------------------------------------------------------
@@ -60,17 +61,7 @@ module _ (f cap n : ℕ) (t : List ℕ) (w : Way) (room : 4 * n ≤ length t) (w
   gain-other = put-other-pair t who _
 
   pub gain-framed : Framed n t u
-  gain-framed =
-      record {
-        long = put-length t who _;
-        number = put-number t who _;
-        next = λ i l. next i (ℕ-discrete i who);
-        rest = λ x l. put-word t who _ x (λ e. omega arith) (λ e. omega arith) (λ e. omega arith);
-      }
-    where
-      next : (i : ℕ) → Dec (i ≡ who) → getD u (4 * i + 3) 0 ≡ getD t (4 * i + 3) 0
-      next i (yes e) = rw e (put-next t who _ (omega arith))
-      next i (no ne) = put-other-next t who _ i ne
+  gain-framed = framed-put n t who (offeredAt t w) room within
 
   pub gain-short : Short cap n t → Short cap n u
   gain-short s i l = at (ℕ-discrete i who)

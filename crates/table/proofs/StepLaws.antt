@@ -18,11 +18,14 @@ use Rattle.table.proofs.LineLaws.{put-word, put-length, put-pair, put-n
 pub begun-none : (d : ℕ) (us t : List ℕ) → Begun d us 0 t t
 begun-none d us t =
     record {
-      long = refl;
-      number = λ i l. absurd (omega arith);
+      lined =
+          record {
+            long = refl;
+            number = λ i l. absurd (omega arith);
+            next = λ i l. absurd (omega arith);
+            rest = λ w l. refl;
+          };
       pair = λ i l. absurd (omega arith);
-      next = λ i l. absurd (omega arith);
-      rest = λ w l. refl;
     }
 
 module _ (d : ℕ) (us : List ℕ) (i : ℕ) (t u : List ℕ) (room : 4 * i + 4 ≤ length u) (b : Begun d us i t u) where
@@ -47,22 +50,25 @@ module _ (d : ℕ) (us : List ℕ) (i : ℕ) (t u : List ℕ) (room : 4 * i + 4 
   pub begun-more : Begun d us (i + 1) t (putLine numbered i new)
   begun-more =
       record {
-        long = put-length numbered i new ∙ simp length-set (b .long);
-        number =
-            below-more (λ j. numberAt (putLine numbered i new) j ≡ getD us j 0) i
-            (λ j h. before j (4 * j) h (omega arith) (omega arith) ∙ b .number j h)
-            (put-number numbered i new i ∙ getD-set-same u (4 * i) x 0 (omega arith));
+        lined =
+            record {
+              long = put-length numbered i new ∙ simp length-set (b .lined .long);
+              number =
+                  below-more (λ j. numberAt (putLine numbered i new) j ≡ getD us j 0) i
+                  (λ j h. before j (4 * j) h (omega arith) (omega arith) ∙ b .lined .number j h)
+                  (put-number numbered i new i ∙ getD-set-same u (4 * i) x 0 (omega arith));
+              next =
+                  below-more (λ j. nextAt (putLine numbered i new) j ≡ getD us j 0) i
+                  (λ j h. before j (4 * j + 3) h (omega arith) (omega arith) ∙ b .lined .next j h)
+                  (put-next numbered i new fits);
+              rest = λ w l.
+                  put-word numbered i new w (λ e. omega arith) (λ e. omega arith) (λ e. omega arith)
+                  ∙ getD-set-other u (4 * i) w x 0 (λ e. omega arith) ∙ b .lined .rest w (omega arith);
+            };
         pair =
             below-more (λ j. pairAt (putLine numbered i new) j ≡ fresh d (getD us j 0)) i
             (λ j h. pair-same (before j (4 * j + 1) h (omega arith) (omega arith), before j (4 * j + 2) h (omega arith) (omega arith)) ∙ b .pair j h)
             (put-pair numbered i new fits);
-        next =
-            below-more (λ j. nextAt (putLine numbered i new) j ≡ getD us j 0) i
-            (λ j h. before j (4 * j + 3) h (omega arith) (omega arith) ∙ b .next j h)
-            (put-next numbered i new fits);
-        rest = λ w l.
-            put-word numbered i new w (λ e. omega arith) (λ e. omega arith) (λ e. omega arith)
-            ∙ getD-set-other u (4 * i) w x 0 (λ e. omega arith) ∙ b .rest w (omega arith);
       }
 
 pub hopped-none : (d : ℕ) (best t : List ℕ) → Hopped d best 0 t t

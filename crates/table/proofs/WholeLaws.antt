@@ -1,5 +1,5 @@
--- The whole: what is begun, settled in three phases and given its next hops by one election is the stable table. The stable routing is
--- known (`stableOf-stable`); the phases leave its pairs (`NearLaws`), and what is due hangs on pairs alone.
+-- The phases: what is begun and settled in three phases has the pairs that are due. The stable routing is known (`stableOf-stable`); the
+-- phases leave its pairs (`NearLaws`), and what is due hangs on pairs alone.
 use Prim.Native.Nat.{ℕ, _-_, _*_, _≤_, _<_}
 use mathlib.Core.Path.{_≡_, refl, sym, _∙_, ap}
 use mathlib.Core.Logic.{_≢_}
@@ -15,6 +15,7 @@ use Rattle.rules.specs.Network.{linksOf, asesOf, arcsOf}
 use Rattle.rules.specs.Stable.{Line, Routing, lineOf, told, tableOf}
 use Rattle.rules.specs.Solve.{stableOf}
 use Rattle.rules.proofs.Faces.{typ, len, Marked, Settled}
+use Rattle.rules.proofs.OfferLaws.{pair-same}
 use Rattle.rules.proofs.BestLaws.{best-same}
 use Rattle.rules.proofs.StableFaces.{due-off, stable-settled}
 use Rattle.rules.proofs.Exists.{stableOf-stable}
@@ -25,15 +26,15 @@ use Rattle.offers.specs.Lines.{numberAt, nextAt, pairAt, printed}
 use Rattle.offers.specs.Ways.{placeIn}
 use Rattle.offers.specs.Passes.{offersTo}
 use Rattle.offers.proofs.PlaceLaws.{at-in, place-in, place-at}
-use Rattle.offers.proofs.TableLaws.{table-length, table-line, printed-at}
-use Rattle.table.specs.Entries.{Filled}
+use Rattle.offers.proofs.TableLaws.{table-line, printed-at}
+use Rattle.table.specs.Guess.{Framed}
 use Rattle.table.specs.Phases.{Ready, Phased}
-use Rattle.table.specs.Steps.{fresh, Begun, hopOf, Hopped}
-use Rattle.table.proofs.LineLaws.{Framed, framed-more}
+use Rattle.table.specs.Steps.{Lined, fresh, Begun, dueAt, Agreed}
+use Rattle.table.proofs.LineLaws.{framed-more, lined-framed}
 use Rattle.table.proofs.CloseLaws.{Close}
 use Rattle.table.proofs.PhaseLaws.{ready-reached}
 use Rattle.table.proofs.NearLaws.{Near, near-next, near-last}
-use Rattle.table.proofs.WordLaws.{list-at, table-is}
+use Rattle.table.proofs.WordLaws.{list-at}
 
 -- The beginning --------------------------------------------------------------------------------------------------------------
 
@@ -129,45 +130,36 @@ module _ (ws : List ℕ) (d : ℕ) (ps : List ℕ) where
         ap lineOf (best-same (told (printed (length us) t)) (told S) u (arcsOf ls) (λ a m h. printed-pair (a .neighbour) (arcs-ends ls a m .1)))
         ∙ sym (stableOf-stable (arcsOf ls) d u ∙ due-off (arcsOf ls) d S u ne)
 
-  -- The stable table -----------------------------------------------------------------------------------------------------------
+  -- Every pair is due --------------------------------------------------------------------------------------------------------
 
-  module _ {list old first t best new : List ℕ} (rest : List ℕ) (listed : take (length us) list ≡ us)
+  module _ {list old first t best : List ℕ} (beyond : List ℕ) (listed : take (length us) list ≡ us)
       (begun : Begun d list (length us) old first) (ready : Ready ws ps (length us - 1) first) (phased : Phased ls ps (length us - 1) first t)
-      (elected : best ≡ tableOf (offersTo ls t (length us)) us ++ rest) (hopped : Hopped d best (length us) t new) where
+      (elected : best ≡ tableOf (offersTo ls t (length us)) us ++ beyond) where
+    lined : Lined list (length us) old t
+    lined = lined-framed (begun .lined) (phased-framed ready phased)
+
     number : (i : ℕ) → i < length us → numberAt t i ≡ getD us i 0
-    number i h = phased-framed ready phased .number i ∙ begun .number i h ∙ list-at list us listed i h
+    number i h = lined .number i h ∙ list-at list us listed i h
 
     pairs : (v : ℕ) → In v us → pairAt t (placeIn us v) ≡ S v .pair
     pairs = phased-pairs ready phased (near-begun listed begun)
 
-    -- entry i has its pair, and its next hop by the election, or its own number at the destination
-    pair-at : (i : ℕ) → i < length us → pairAt new i ≡ S (getD us i 0) .pair
-    pair-at i h =
-        hopped .pair i ∙ ap (pairAt t) (sym (place-at us (ases-distinct ls) i h)) ∙ pairs (getD us i 0) (at-in 0 us i h)
+    pair-at : (i : ℕ) → i < length us → pairAt t i ≡ S (getD us i 0) .pair
+    pair-at i h = ap (pairAt t) (sym (place-at us (ases-distinct ls) i h)) ∙ pairs (getD us i 0) (at-in 0 us i h)
 
-    next-at : (i : ℕ) → i < length us → nextAt new i ≡ S (getD us i 0) .next
-    next-at i h = hopped .next i h ∙ at (ℕ-discrete (getD us i 0) d)
-      where
-        at : Dec (getD us i 0 ≡ d) → hopOf d t best i ≡ S (getD us i 0) .next
-        at (yes e) =
-            rw (eq-eqb (numberAt t i) d (number i h ∙ e))
-            (phased-framed ready phased .next i h ∙ begun .next i h ∙ list-at list us listed i h ∙ e ∙ sym (settled .own-next)
-            ∙ ap (λ (u : ℕ). S u .next) (sym e))
-        at (no ne) =
-            rw (ne-eqb (numberAt t i) d (λ e. ne (sym (number i h) ∙ e)))
-            (ap (λ (b : List ℕ). nextAt b i) elected ∙ ap (λ (l : Line). l .next) (table-line (offersTo ls t (length us)) rest us i h)
-            ∙ ap (λ (l : Line). l .next) (offers-due t (phased-ready ready phased .room) number pairs (getD us i 0) ne))
+    due-pair : (i : ℕ) → i < length us → Dec (getD us i 0 ≡ d) → dueAt d t best i ≡ S (getD us i 0) .pair
+    due-pair i h (yes e) =
+        rw (eq-eqb (numberAt t i) d (number i h ∙ e), e) (sym (pair-same (settled .marked .own-typ, settled .marked .own-len)))
+    due-pair i h (no ne) =
+        rw (ne-eqb (numberAt t i) d (λ e. ne (sym (number i h) ∙ e)))
+        (ap (λ (b : List ℕ). pairAt b i) elected ∙ ap (λ (l : Line). l .pair) (table-line (offersTo ls t (length us)) beyond us i h)
+        ∙ ap (λ (l : Line). l .pair) (offers-due t (phased-ready ready phased .room) number pairs (getD us i 0) ne))
 
-    pub filled : Filled ls d old new
-    filled =
+    pub phased-agreed : Agreed ls d list (length us) old t best
+    phased-agreed =
         record {
-          table = tableOf S us;
-          stable = record { routing = S; stable = stableOf-stable (arcsOf ls) d; words = refl };
-          words =
-              table-is S us old new (omega (arith, ready .room, begun .long))
-              (hopped .long ∙ phased-framed ready phased .long ∙ begun .long)
-              (λ i h. hopped .number i ∙ number i h)
-              (λ i h. λ k. record { pair = pair-at i h k; next = next-at i h k })
-              (λ w h. hopped .rest w h ∙ phased-framed ready phased .rest w h ∙ begun .rest w h)
-              ∙ ap (λ (k : ℕ). tableOf S us ++ drop k old) (sym (table-length S us));
+          lined = lined;
+          beyond = beyond;
+          elected = elected;
+          agrees = λ i h. due-pair i h (ℕ-discrete (getD us i 0) d) ∙ sym (pair-at i h);
         }

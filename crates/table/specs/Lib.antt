@@ -1,3 +1,4 @@
 pub mod Entries
+pub mod Guess
 pub mod Phases
 pub mod Steps

@@ -1,17 +1,22 @@
--- What the steps of the stable table ask and say: it begins, pairs settle phase by phase, and next hops are taken over.
+-- What the steps of the stable table ask and say: it begins, pairs are guessed and judged, or settle phase by phase, and next hops are
+-- taken over.
 --
+--   Lined us n t u     table u is t with entries for the first n ASes of us, each of which is its own next hop
 --   fresh d u          u's pair before the first phase: the destination's origin, every other AS unreachable
 --   Begun d us n t u   table u is t with the fresh lines of the first n ASes of us in its first entries
+--   dueAt d t b i      the pair that is due at entry i of t: origin at the destination d, and else that of the best offers b
+--   Agrees d t b n     each of the first n entries has the pair that is due
 --   hopOf d t b i      the next hop of entry i: its own at the destination d, and else that of table b
 --   Hopped d b n t u   table u is t with those next hops in its first n entries
 --   checkedOf n v      a verdict with the number of ASes in place of its pass
 --   Sized, Looked      what the look at sizes asks, and what the look at the whole input says
 --   Filling            what the work on an accepted input asks
---   Lined              what the phases leave in the table and the room
-use Prim.Native.Nat.{ℕ, _-_, _*_, _≤_, _<_}
+--   Tried              what the guess leaves in the table and the room
+--   Agreed             what the choice leaves: every pair is due
+use Prim.Native.Nat.{ℕ, _*_, _≤_, _<_}
 use mathlib.Core.Path.{_≡_}
 use mathlib.Core.Bool.{cond}
-use mathlib.Core.List.{List}
+use mathlib.Core.List.{List, _++_}
 use lib.Dec.{eqb}
 use lib.ListN.{length, getD, take}
 use Rattle.rules.specs.declared.TypeLength.{TypeLength}
@@ -24,23 +29,34 @@ use Rattle.rules.specs.declared.Verdict.the-variants.{Passes, Refused}
 use Rattle.rules.specs.Pairs.{originOf, unreachableOf}
 use Rattle.rules.specs.Lists.{In}
 use Rattle.rules.specs.Network.{linksOf, asesOf}
+use Rattle.rules.specs.Stable.{tableOf}
 use Rattle.rules.specs.Checks.{roomNeed}
 use Rattle.rules.specs.Entry.{linksFault}
 use Rattle.rules.specs.Ascending.{Ascending}
 use Rattle.offers.specs.Lines.{numberAt, nextAt, pairAt}
 use Rattle.offers.specs.Steps.{Placed}
+use Rattle.offers.specs.Passes.{offersTo}
 use Rattle.table.specs.Entries.{tableFault}
-use Rattle.table.specs.Phases.{Phased}
+use Rattle.table.specs.Guess.{Low}
 
 abbrev pub fresh : ℕ → ℕ → TypeLength
 fresh d u = cond (eqb u d) originOf unreachableOf
 
-pub record Begun (d : ℕ) (us : List ℕ) (n : ℕ) (t u : List ℕ) : Type 0 where
+pub record Lined (us : List ℕ) (n : ℕ) (t u : List ℕ) : Type 0 where
   pub long : length u ≡ length t
   pub number : (i : ℕ) → i < n → numberAt u i ≡ getD us i 0
-  pub pair : (i : ℕ) → i < n → pairAt u i ≡ fresh d (getD us i 0)
   pub next : (i : ℕ) → i < n → nextAt u i ≡ getD us i 0
   pub rest : (w : ℕ) → 4 * n ≤ w → getD u w 0 ≡ getD t w 0
+
+pub record Begun (d : ℕ) (us : List ℕ) (n : ℕ) (t u : List ℕ) : Type 0 where
+  pub lined : Lined us n t u
+  pub pair : (i : ℕ) → i < n → pairAt u i ≡ fresh d (getD us i 0)
+
+abbrev pub dueAt : ℕ → List ℕ → List ℕ → ℕ → TypeLength
+dueAt d t b i = cond (eqb (numberAt t i) d) originOf (pairAt b i)
+
+abbrev pub Agrees : ℕ → List ℕ → List ℕ → ℕ → Type 0
+Agrees d t b n = (i : ℕ) → i < n → dueAt d t b i ≡ pairAt t i
 
 abbrev pub hopOf : ℕ → List ℕ → List ℕ → ℕ → ℕ
 hopOf d t b i = cond (eqb (numberAt t i) d) (nextAt t i) (nextAt b i)
@@ -82,9 +98,15 @@ pub record Filling (ws : List ℕ) (d : ℕ) (list : List ℕ) (n table room : �
   pub entries : 4 * n ≤ table
   pub words : roomNeed (length (linksOf ws)) n ≤ room
 
--- table t is old after the phases, and the first words of ps say where the links' ends stand
-pub record Lined (ls : List Link) (d : ℕ) (list : List ℕ) (n : ℕ) (old t ps : List ℕ) : Type 0 where
-  pub first : List ℕ
-  pub begun : Begun d list n old first
+-- table t is old with entries for the ASes us, whose lengths are low, and the first words of ps say where the links' ends stand
+pub record Tried (ls : List Link) (us : List ℕ) (n : ℕ) (old t ps : List ℕ) : Type 0 where
+  pub lined : Lined us n old t
+  pub low : Low n t
   pub placed : Placed ls ps
-  pub phased : Phased ls ps (n - 1) first t
+
+-- table t is old with entries for the ASes us, b has the best offers under them, and each entry has the pair that is due
+pub record Agreed (ls : List Link) (d : ℕ) (us : List ℕ) (n : ℕ) (old t b : List ℕ) : Type 0 where
+  pub lined : Lined us n old t
+  pub beyond : List ℕ
+  pub elected : b ≡ tableOf (offersTo ls t n) (asesOf ls) ++ beyond
+  pub agrees : Agrees d t b n

@@ -5,17 +5,20 @@ ghost use lib.ListN.{length, replicate};
 ghost use Rattle.rules.specs.Network.{linksOf};
 ghost use Rattle.rules.specs.Checks.{baseLimits};
 ghost use Rattle.table.specs.Entries.{Filled, Tabled};
-ghost use Rattle.table.specs.Steps.{Filling, Lined};
+ghost use Rattle.offers.specs.Steps.{Placed};
+ghost use Rattle.table.specs.Steps.{Filling, Tried, Agreed};
 use rules::Checked;
 use rules::Verdict;
 
+mod due;
 mod hops;
 mod look;
 mod phases;
+mod quick;
 mod start;
 
-// Types and lengths of an accepted network's lines. The places of the links' ends are left in the room.
-fn settle_lines(
+// A guess at the lines of an accepted network. The places of the links' ends are left in the room.
+fn guess_lines(
     words: &[u32],
     destination: u32,
     ases: &[u32],
@@ -24,12 +27,50 @@ fn settle_lines(
     room: &mut [u32],
 )
     requires { ⌜ Filling (now words) destination (now ases) n (length (now table)) (length (now room)) ⌝ }
-    ensures { λ _. ⌜ Lined (linksOf (now (words .entry))) destination (now (ases .entry)) n (now (table .entry)) (now (table .exit)) (now (room .exit)) ⌝ }
+    ensures { λ _. ⌜ Tried (linksOf (now (words .entry))) (now (ases .entry)) n (now (table .entry)) (now (table .exit)) (now (room .exit)) ⌝ }
 {
     start::begin(table, ases, n, destination);
     offers::place_ends(words, ases, n, room);
-    let cap = (n - 1) as u32;
-    phases::settle(words, room, table, cap);
+    quick::guess(words, room, table, n);
+}
+
+// The lines as they settle without a guess, whatever the table has, and the best offers under them.
+fn settle_lines(
+    words: &[u32],
+    destination: u32,
+    ases: &[u32],
+    n: usize,
+    table: &mut [u32],
+    places: &[u32],
+    best: &mut [u32],
+)
+    requires { ⌜ Filling (now words) destination (now ases) n (length (now table)) (length (now places)) × Placed (linksOf (now words)) (now places) × (4 * n ≤ length (now best)) ⌝ }
+    ensures { λ _. ⌜ Agreed (linksOf (now (words .entry))) destination (now (ases .entry)) n (now (table .entry)) (now (table .exit)) (now (best .exit)) ⌝ }
+{
+    start::begin(table, ases, n, destination);
+    phases::settle(words, places, table, (n - 1) as u32);
+    offers::elect_links(words, places, table, best, n);
+}
+
+// Lines that are due, each under the others, and the best offers under them: those of the table, if the election gives them again,
+// and else the settled ones. So rightness rests on the election, and the guess is for speed alone.
+fn choose_lines(
+    words: &[u32],
+    destination: u32,
+    ases: &[u32],
+    n: usize,
+    table: &mut [u32],
+    places: &[u32],
+    best: &mut [u32],
+)
+    requires { ⌜ Filling (now words) destination (now ases) n (length (now table)) (length (now places)) × Tried (linksOf (now words)) (now ases) n (now table) (now table) (now places) × (4 * n ≤ length (now best)) ⌝ }
+    ensures { λ _. ⌜ Agreed (linksOf (now (words .entry))) destination (now (ases .entry)) n (now (table .entry)) (now (table .exit)) (now (best .exit)) ⌝ }
+{
+    offers::elect_links(words, places, table, best, n);
+    if due::agrees(table, best, n, destination) {
+        return;
+    }
+    settle_lines(words, destination, ases, n, table, places, best);
 }
 
 // The whole table of an accepted network. The best offers are found in a table that is lent for them, and the room is cleared.
@@ -45,8 +86,8 @@ fn fill(
     requires { ⌜ Filling (now words) destination (now ases) n (length (now table)) (length (now room)) × (4 * n ≤ length (now best)) ⌝ }
     ensures { λ _. ⌜ Filled (linksOf (now (words .entry))) destination (now (table .entry)) (now (table .exit)) × (now (room .exit) ≡ replicate (length (now (room .entry))) 0) ⌝ }
 {
-    settle_lines(words, destination, ases, n, table, room);
-    offers::elect_links(words, room, table, best, n);
+    guess_lines(words, destination, ases, n, table, room);
+    choose_lines(words, destination, ases, n, table, room, best);
     hops::take_hops(table, best, n, destination);
     network::clear(room);
 }

@@ -7,42 +7,37 @@ use lib.Seq.{length-take-le}
 use borrow.Author.Needs.{needs}
 use Rattle.limit_runs.proofs.say_ases.Statement.{statement}
 use Rattle.limit_runs.proofs.say_ases.Tie as tie
+use Rattle.limit_runs.proofs.say_ases.Reads as reads
+use Rattle.limit_runs.proofs.say_ases.Lts as lts
+use Rattle.limit_runs.proofs.say_links.Reads as say-links-reads
 
+-- src/main.rt:67:19
 mul-end : tie.Need-mul-end
 mul-end c = search needs
 
-slice-aggregate-say-reply : tie.Need-slice-aggregate-say-reply
-slice-aggregate-say-reply c = search needs
-
-slice-aggregate-check-links : tie.Need-slice-aggregate-check-links
-slice-aggregate-check-links c =
-    let h : 3 * c .before .before .before .before .before .args .m ≤ length (c .before .before .before .before .before .args .words .now) = omega arith in
+-- src/main.rt:69:23
+slice-aggregate-say-links : tie.Need-slice-aggregate-say-links
+slice-aggregate-say-links c =
+    let h : 3 * c .before .before .before .before .args .m ≤ length (c .before .before .before .before .args .words .now) = omega arith in
     sym (length-take-le _ _ h)
 
-check-links-requires : tie.Need-check-links-requires
-check-links-requires c κs = search needs
+-- src/main.rt:69:13
+say-links-requires : tie.Need-say-links-requires
+say-links-requires c κs = search needs
 
-say-reply-requires : tie.Need-say-reply-requires
-say-reply-requires c κs = search needs
-
+-- src/main.rt:65:1
 returns : tie.Need-returns
 returns c = search needs
 
+-- src/main.rt:65:1
 returns-2 : tie.Need-returns-2
 returns-2 c = search needs
 
+-- src/main.rt:65:1
 returns-3 : tie.Need-returns-3
 returns-3 c = search needs
 
 pub say-ases-spec : {M : Type 1} → statement M
 say-ases-spec =
     tie.close
-    (tie.spec
-    mul-end
-    slice-aggregate-say-reply
-    slice-aggregate-check-links
-    check-links-requires
-    say-reply-requires
-    returns
-    returns-2
-    returns-3)
+    (tie.spec mul-end slice-aggregate-say-links say-links-requires returns returns-2 returns-3)

@@ -1,20 +1,23 @@
--- `table::fill` meets its contract: what the phases leave is what the election asks, and with its next hops it is the stable table.
+-- `table::fill` meets its contract: what was tried and chosen has the pairs that are due, and with its next hops it is the stable table.
 use Prim.Native.Nat.{ℕ}
 use mathlib.Core.Path.{_≡_, _∙_, ap}
 use borrow.Author.Needs.{needs}
 use lib.ListN.{length, replicate}
-use Rattle.table.proofs.FillLaws.{lined-electing, lined-filled}
+use Rattle.table.proofs.FillLaws.{filling-still, tried-self, tried-agreed, lines-filled}
 use Rattle.table.proofs.fill.Statement.{statement}
 use Rattle.table.proofs.fill.Tie as tie
 
-settle-lines-requires : tie.Need-settle-lines-requires
-settle-lines-requires c κs = search needs
+guess-lines-requires : tie.Need-guess-lines-requires
+guess-lines-requires c κs = search needs
 
-elect-links-requires : tie.Need-elect-links-requires
-elect-links-requires c κs =
-    let settling = c .before .before .before .before .before .before .before in
-    let s = settling .before .before .before .before .before .before .before .before in
-    (lined-electing _ _ _ _ _ _ _ _ (s .pre .0 .count) (s .pre .0) (settling .settle-lines .ensures), s .pre .1)
+choose-lines-requires : tie.Need-choose-lines-requires
+choose-lines-requires c κs =
+    let guessing = c .before .before .before .before .before .before .before in
+    let s = guessing .before .before .before .before .before .before .before .before in (
+      filling-still (s .pre .0) (guessing .guess-lines .kept .1 .1 .1 .1 .0) (guessing .guess-lines .kept .1 .1 .1 .1 .1 .0),
+      tried-self (guessing .guess-lines .ensures),
+      s .pre .1,
+    )
 
 take-hops-requires : tie.Need-take-hops-requires
 take-hops-requires c κs = search needs
@@ -35,11 +38,11 @@ returns : tie.Need-returns
 returns c =
     let clearing = c .before .before in
     let hopping = clearing .before .before .before .before in
-    let electing = hopping .before .before .before .before .before in
-    let settling = electing .before .before .before .before .before .before .before .before in
-    let s = settling .before .before .before .before .before .before .before .before in
-    let same : length (settling .settle-lines .last .1 .1 .1 .1 .1 .0) ≡ length (s .args .room .now) = settling .settle-lines .kept .1 .1 .1 .1 .1 .0 in (
-      lined-filled _ _ _ _ _ _ _ _ (s .pre .0 .count) _ (s .pre .0) (settling .settle-lines .ensures) (electing .elect-links .ensures)
+    let choosing = hopping .before .before .before .before .before .before .before in
+    let guessing = choosing .before .before .before .before .before .before .before .before in
+    let s = guessing .before .before .before .before .before .before .before .before in
+    let same : length (guessing .guess-lines .last .1 .1 .1 .1 .1 .0) ≡ length (s .args .room .now) = guessing .guess-lines .kept .1 .1 .1 .1 .1 .0 in (
+      lines-filled _ _ _ _ _ _ _ (s .pre .0 .count) (s .pre .0) (tried-agreed (guessing .guess-lines .ensures) (choosing .choose-lines .ensures))
           (hopping .take-hops .ensures),
       clearing .clear .ensures ∙ ap (λ (k : ℕ). replicate k 0) same,
     )
@@ -48,8 +51,8 @@ pub fill-spec : {M : Type 1} → statement M
 fill-spec =
     tie.close
     (tie.spec
-    settle-lines-requires
-    elect-links-requires
+    guess-lines-requires
+    choose-lines-requires
     take-hops-requires
     clear-requires
     same-length

@@ -1,30 +1,33 @@
--- `table::settle_lines` meets its contract: what is begun, with the places of the links' ends, is ready for the phases.
+-- `table::settle_lines` meets its contract: what is begun is ready for the phases, and what they leave has the pairs that are due.
 use mathlib.Core.Path.{refl}
 use borrow.Author.Needs.{needs}
-use Rattle.table.proofs.FillLaws.{placed-front, filling-list, filling-some, begun-ready}
+use Rattle.table.proofs.FillLaws.{filling-list, filling-some, begun-ready, phased-electing, settled-agreed}
 use Rattle.table.proofs.settle_lines.Statement.{statement}
 use Rattle.table.proofs.settle_lines.Tie as tie
 
 begin-requires : tie.Need-begin-requires
 begin-requires c κs =
-    let s = c .before .before .before .before .before in
-    (s .pre .entries, filling-list (s .pre))
+    let s = c .before .before .before .before .before .before in
+    (s .pre .0 .entries, filling-list (s .pre .0))
 
-place-ends-requires : tie.Need-place-ends-requires
-place-ends-requires c κs = search needs
+sub-settle : tie.Need-sub-settle
+sub-settle c = filling-some (c .before .before .before .before .before .before .before .before .before .before .pre .0)
 
-sub-cap : tie.Need-sub-cap
-sub-cap c = filling-some (c .before .before .before .before .before .before .before .before .before .before .before .before .pre)
-
-cast-cap : tie.Need-cast-cap
-cast-cap c = search needs
+cast-settle : tie.Need-cast-settle
+cast-settle c = search needs
 
 settle-requires : tie.Need-settle-requires
 settle-requires c κs =
-    let placing = c .before .before .before .before in
-    let beginning = placing .before .before .before .before in
-    let s = beginning .before .before .before .before .before .before in
-    begun-ready (s .pre) _ refl (placed-front _ _ _ (placing .place-ends .ensures)) (beginning .begin .ensures)
+    let beginning = c .before .before .before in
+    let s = beginning .before .before .before .before .before .before .before in
+    begun-ready (s .pre .0) _ refl (s .pre .1) (beginning .begin .ensures)
+
+elect-links-requires : tie.Need-elect-links-requires
+elect-links-requires c κs =
+    let settling = c .before .before .before .before in
+    let beginning = settling .before .before .before .before in
+    let s = beginning .before .before .before .before .before .before .before in
+    (phased-electing _ _ _ _ _ _ _ (s .pre .0 .count) _ (s .pre .0) (s .pre .1) (beginning .begin .ensures) (settling .settle .ensures), s .pre .2)
 
 same-length : tie.Need-same-length
 same-length c = search needs
@@ -34,25 +37,22 @@ same-length-2 c = search needs
 
 returns : tie.Need-returns
 returns c =
-    let settling = c .before .before in
-    let placing = settling .before .before .before .before .before in
-    let beginning = placing .before .before .before .before in
-    record {
-      first = beginning .begin .last .0;
-      begun = beginning .begin .ensures;
-      placed = placed-front _ _ _ (placing .place-ends .ensures);
-      phased = settling .settle .ensures;
-    }
+    let electing = c .before .before in
+    let settling = electing .before .before .before .before .before in
+    let beginning = settling .before .before .before .before in
+    let s = beginning .before .before .before .before .before .before .before in
+    settled-agreed _ _ _ _ _ _ _ (s .pre .0 .count) _ _ (s .pre .0) (s .pre .1) (beginning .begin .ensures) (settling .settle .ensures)
+    (electing .elect-links .ensures)
 
 pub settle-lines-spec : {M : Type 1} → statement M
 settle-lines-spec =
     tie.close
     (tie.spec
     begin-requires
-    place-ends-requires
-    sub-cap
-    cast-cap
+    sub-settle
+    cast-settle
     settle-requires
+    elect-links-requires
     same-length
     same-length-2
     returns)

@@ -4,6 +4,9 @@ use borrow.Author.Needs.{needs}
 use Rattle.findings.proofs.ring.has_ring.Statement.{statement}
 use Rattle.findings.proofs.ring.has_ring.Tie as tie
 
+peel-ranked-requires : tie.Need-peel-ranked-requires
+peel-ranked-requires c κs = search needs
+
 strip-requires : tie.Need-strip-requires
 strip-requires c κs = search needs
 
@@ -16,8 +19,8 @@ same-length c = search needs
 returns : tie.Need-returns
 returns c =
     let at-strip = c .before .before .before .before in
-    let start = at-strip .before .before .before .before in
-    ring-found (start .pre .0 .ases) (start .pre .1) (at-strip .strip .ensures) (c .any-set .result) (c .any-set .ensures)
+    let ranked = at-strip .before .before .before .before .peel-ranked .ensures in
+    ring-found (ranked .0 .ases) (ranked .1) (at-strip .strip .ensures) (c .any-set .result) (c .any-set .ensures)
 
 pub has-ring-spec : {M : Type 1} → statement M
-has-ring-spec = tie.close (tie.spec strip-requires any-set-requires same-length returns)
+has-ring-spec = tie.close (tie.spec peel-ranked-requires strip-requires any-set-requires same-length returns)

@@ -1,11 +1,10 @@
 -- The links read so far, before what is left to read, are the whole (`Held`); one law for each way out of a turn.
 use mathlib.Core.Logic.{⊎-elim}
-use Prim.Native.Nat.{_+_, _-_, _≤_}
+use Prim.Native.Nat.{_+_, _-_}
 use native.Mathlib.Omega.{arith}
 use lib.ListN.{length}
 use borrow.Author.Needs.{needs}
-use Rattle.linktext.proofs.PlaceLaws.{place-within}
-use Rattle.linktext.proofs.TurnLaws.{Held, Turn, begins, ends-all, stops-bad, stops-over, skips, takes}
+use Rattle.linktext.proofs.TurnLaws.{Held, Turn, begins, line-end, ends-all, stops-bad, stops-over, skips, takes}
 use Rattle.linktext.proofs.reading.read_lines.Statement.{statement}
 use Rattle.linktext.proofs.reading.read_lines.Tie as tie
 
@@ -18,41 +17,20 @@ abbrev μ-loop : tie.MeasureT-loop
 loop-holds : tie.Need-loop-holds Inv-loop μ-loop
 loop-holds c = begins _ _ _ (c .before .before .pre)
 
-line-end : (c : tie.After-find Inv-loop μ-loop) → c .find .result ≤ length (c .before .before .before .before .before .args .text .now)
-line-end c = place-within 10 (c .before .before .before .before .before .args .text .now) (c .before .before .loop .at) (c .find .result) (omega arith) (c .find .ensures)
+at-line : (c : tie.After-line-at Inv-loop μ-loop)
+    → Turn (c .before .before .before .before .before .args .text .now)
+    (c .before .before .before .before .before .args .words .now)
+    (c .before .before .before .before .before .args .most)
+    (c .before .before .loop .at)
+    (c .before .before .loop .line)
+    (c .before .before .loop .n)
+    (c .before .before .loop .words)
+    (c .line-at .result .end)
+    (c .line-at .result .read)
+at-line c = record { held = c .before .before .loop .inv; more = c .before .loop-test .taken; given = c .line-at .ensures }
 
-at-line : (c : tie.After-read-line Inv-loop μ-loop)
-    → Turn (c .before .before .before .before .before .before .before .args .text .now)
-    (c .before .before .before .before .before .before .before .args .words .now)
-    (c .before .before .before .before .before .before .before .args .most)
-    (c .before .before .before .before .loop .at)
-    (c .before .before .before .before .loop .line)
-    (c .before .before .before .before .loop .n)
-    (c .before .before .before .before .loop .words)
-    (c .before .before .find .result)
-    (c .read-line .result)
-at-line c =
-    record {
-      held = c .before .before .before .before .loop .inv;
-      more = c .before .before .before .loop-test .taken;
-      stop = c .before .before .find .ensures;
-      gave = c .read-line .ensures;
-    }
-
-find-requires : tie.Need-find-requires Inv-loop μ-loop
-find-requires c κs = search needs
-
-sub-read-line : tie.Need-sub-read-line Inv-loop μ-loop
-sub-read-line c = search needs
-
-part-read-line-start : tie.Need-part-read-line-start Inv-loop μ-loop
-part-read-line-start c = search needs
-
-part-read-line-end : tie.Need-part-read-line-end Inv-loop μ-loop
-part-read-line-end c = line-end c
-
-read-line-requires : tie.Need-read-line-requires Inv-loop μ-loop
-read-line-requires c κs = search needs
+line-at-requires : tie.Need-line-at-requires Inv-loop μ-loop
+line-at-requires c κs = search needs
 
 enum-told : tie.Need-enum-told Inv-loop μ-loop
 enum-told c = search needs
@@ -83,17 +61,17 @@ add-line : tie.Need-add-line Inv-loop μ-loop
 add-line c = search needs
 
 add-at : tie.Need-add-at Inv-loop μ-loop
-add-at c = omega (arith, line-end (c .before .before .before))
+add-at c = omega (arith, line-end (at-line (c .before .before)))
 
 loop-less : tie.Need-loop-less Inv-loop μ-loop
-loop-less c = omega (arith, line-end (c .before .before .before))
+loop-less c = omega (arith, line-end (at-line (c .before .before)))
 
 loop-again : tie.Need-loop-again Inv-loop μ-loop
 loop-again c =
     ⊎-elim
-    (λ w. rw (w .2, w .3) (skips (at-line (c .before)) (w .1 .given .1)))
-    (λ w. rw (w .9, w .10, w .6 .ensures) (takes (at-line (c .before)) (w .2 .given .1) (w .4 .left)))
-    (c .match .came)
+    (λ w. rw (w .2, w .3) (skips (at-line (c .before .before)) (w .1 .given .1)))
+    (λ w. rw (w .9, w .10, w .6 .ensures) (takes (at-line (c .before .before)) (w .2 .given .1) (w .4 .left)))
+    (c .before .match .came)
 
 same-length-3 : tie.Need-same-length-3 Inv-loop μ-loop
 same-length-3 c = search needs
@@ -108,11 +86,7 @@ read-lines-spec =
     Inv-loop
     μ-loop
     loop-holds
-    find-requires
-    sub-read-line
-    part-read-line-start
-    part-read-line-end
-    read-line-requires
+    line-at-requires
     enum-told
     enum-known-read
     same-length

@@ -26,8 +26,8 @@ returns : tie.Need-returns
 returns c =
     let clear = c .before .before in
     let first = clear .before .before in
-    let driven = first .before .before .before .before .before .before in
-    answered (driven .drive .ensures) (first .first-waiting .ensures) (search needs) (clear .clear .ensures)
+    let driven = first .before .before .before .before .before .before .before in
+    answered (driven .drive .ensures) (first .first-waiting .ensures .first) (search needs) (clear .clear .ensures)
 
 pub answer-spec : {M : Type 1} → statement M
 answer-spec =

@@ -1,57 +1,78 @@
--- The directions passed have been sent over (`Sent`), one more each turn.
-use Prim.Native.Nat.{_*_, _-_, _≤_}
-use mathlib.Core.Path.{_≡_, sym, _∙_}
-use mathlib.Core.Logic.{⊎-elim}
+-- Along the directions that the sender hears over, it has sent over the partners of those passed (`SentTo`).
+use Prim.Native.Nat.{_*_, _-_}
 use native.Mathlib.Omega.{arith}
 use borrow.Author.Needs.{needs}
-use Rattle.machine.specs.Steps.{Sent}
-use Rattle.machine.proofs.RoomLaws.{sent-none, sent-here, sent-past}
+use Rattle.machine.proofs.IndexLaws.{partner-in}
+use Rattle.machine.proofs.RoomLaws.{SentTo, send-first, send-after, send-more, send-all}
 use Rattle.machine.proofs.room.send.Statement.{statement}
 use Rattle.machine.proofs.room.send.Tie as tie
 
 abbrev Inv-loop : tie.InvT-loop
-Inv-loop room₀ m u word direction₀ room direction = (direction ≤ 2 * m) × Sent m u word direction room₀ room
+Inv-loop room₀ flags₀ m u word k₀ room flags k = SentTo m u word room₀ k room flags
 
 abbrev μ-loop : tie.MeasureT-loop
-μ-loop room₀ m u word direction₀ room direction = 2 * m - direction
+μ-loop room₀ flags₀ m u word k₀ room flags k = 2 * m - k
+
+head-at-requires : tie.Need-head-at-requires Inv-loop μ-loop
+head-at-requires c κs =
+    let s = c .before .before in
+    omega (arith, s .pre .index .room, s .pre .place)
 
 loop-holds : tie.Need-loop-holds Inv-loop μ-loop
-loop-holds c = (omega arith, sent-none _ _ _ _)
+loop-holds c =
+    let s = c .before .before .before in
+    send-first (s .pre) _ (c .head-at .ensures)
 
 mul-loop : tie.Need-mul-loop Inv-loop μ-loop
-mul-loop c = search needs
+mul-loop c =
+    let s = c .before .before .before .before in
+    omega (arith, s .pre .flagged .few)
 
-place-at-requires : tie.Need-place-at-requires Inv-loop μ-loop
-place-at-requires c κs = search needs
+partner-requires : tie.Need-partner-requires Inv-loop μ-loop
+partner-requires c κs = search needs
 
-put-waiting-requires : tie.Need-put-waiting-requires Inv-loop μ-loop
-put-waiting-requires c κs = search needs
+put-flagged-requires : tie.Need-put-flagged-requires Inv-loop μ-loop
+put-flagged-requires c κs =
+    let inside = c .before .before .before in
+    let l = inside .before in
+    let s = l .before .before .before .before in
+    let p = partner-in (s .args .m) (l .loop .k) (inside .loop-test .taken) in
+    (omega (arith, p, c .partner .ensures, l .loop .inv .flagged .room), omega (arith, p, c .partner .ensures, s .pre .flagged .few))
 
-add-direction : tie.Need-add-direction Inv-loop μ-loop
-add-direction c = search needs
+next-at-requires : tie.Need-next-at-requires Inv-loop μ-loop
+next-at-requires c κs =
+    let put = c .before .before .before in
+    let inside = put .before .before .before .before in
+    let l = inside .before in
+    let s = l .before .before .before .before in
+    omega (arith, s .pre .index .room, l .loop .inv .sent .long, inside .loop-test .taken, put .put-flagged .kept .0)
 
 loop-less : tie.Need-loop-less Inv-loop μ-loop
-loop-less c = search needs
+loop-less c =
+    let put = c .before .before .before .before in
+    let partner = put .before in
+    let inside = partner .before .before .before in
+    let l = inside .before in
+    let s = l .before .before .before .before in
+    omega (arith, inside .loop-test .taken, send-after (s .pre) _ (l .loop .inv) (inside .loop-test .taken) (partner .partner .ensures) (put .put-flagged .ensures) (c .next-at .ensures))
 
 loop-again : tie.Need-loop-again Inv-loop μ-loop
 loop-again c =
-    let l = c .before .before .before .before in
-    let inside = c .before .before .before .loop-test .taken in
-    let place = c .before .place-at .ensures in
-    let fits = l .before .before .pre in (
-      omega arith,
-      ⊎-elim
-          (λ w. rw (w .5 ∙ w .2 .ensures) (sent-here (l .loop .inv .1) inside fits (sym place ∙ w .0 .taken)))
-          (λ w. rw (w .1) (sent-past (l .loop .inv .1) inside fits (λ e. w .0 .left (place ∙ e)))) (c .if1 .came),
-    )
+    let put = c .before .before .before .before in
+    let partner = put .before in
+    let inside = partner .before .before .before in
+    let l = inside .before in
+    let s = l .before .before .before .before in
+    send-more (s .pre) _ (l .loop .inv) (inside .loop-test .taken) (partner .partner .ensures) (put .put-flagged .ensures) (c .next-at .ensures)
 
 same-length : tie.Need-same-length Inv-loop μ-loop
-same-length c = c .before .loop .inv .1 .long
+same-length c = c .before .loop .inv .sent .long
 
 returns : tie.Need-returns Inv-loop μ-loop
 returns c =
-    let all : c .before .loop .direction ≡ 2 * c .before .before .before .args .m = omega arith in
-    rw all at (c .before .loop .inv .1)
+    let l = c .before in
+    let s = l .before .before .before .before in
+    send-all (s .pre) _ (l .loop .inv) (c .loop-test .left)
 
 pub send-spec : {M : Type 1} → statement M
 send-spec =
@@ -59,11 +80,12 @@ send-spec =
     (tie.spec
     Inv-loop
     μ-loop
+    head-at-requires
     loop-holds
     mul-loop
-    place-at-requires
-    put-waiting-requires
-    add-direction
+    partner-requires
+    put-flagged-requires
+    next-at-requires
     loop-less
     loop-again
     same-length

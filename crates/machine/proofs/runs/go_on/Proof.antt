@@ -10,37 +10,47 @@ use Rattle.machine.proofs.runs.go_on.Statement.{statement}
 use Rattle.machine.proofs.runs.go_on.Tie as tie
 
 abbrev Inv-loop : tie.InvT-loop
-Inv-loop words m destination table₀ room₀ further idle made₀ i₀ table room made i = (i ≤ further) × (made ≡ made₀ + i) × (length table ≡ length table₀) × (length room ≡ length room₀) × WentOn words m destination i (record { made = made₀; idle = idle }) table₀ room₀ (record { made = made; idle = idle }) table room
+Inv-loop words m destination table₀ room₀ flags₀ further idle made₀ i₀ table room flags made i = (i ≤ further) × (made ≡ made₀ + i) × (length table ≡ length table₀) × (length room ≡ length room₀) × WentOn words m destination i (record { made = made₀; idle = idle }) table₀ room₀ (record { made = made; idle = idle }) table room flags
 
 abbrev μ-loop : tie.MeasureT-loop
-μ-loop words m destination table₀ room₀ further idle made₀ i₀ table room made i = further - i
+μ-loop words m destination table₀ room₀ flags₀ further idle made₀ i₀ table room flags made i = further - i
 
 loop-holds : tie.Need-loop-holds Inv-loop μ-loop
-loop-holds c = (omega arith, omega arith, refl, refl, went-none (c .before .before .before .pre .laid) _)
+loop-holds c =
+    let s = c .before .before .before in
+    (omega arith, omega arith, refl, refl, went-none (s .pre .laid) (s .pre .flagged) _)
 
 first-waiting-requires : tie.Need-first-waiting-requires Inv-loop μ-loop
-first-waiting-requires c κs = c .before .before .loop .inv .4 .laid .room
+first-waiting-requires c κs = c .before .before .before .loop .inv .4 .flagged
 
 mul-if1 : tie.Need-mul-if1 Inv-loop μ-loop
 mul-if1 c = search needs
 
 same-length : tie.Need-same-length Inv-loop μ-loop
-same-length c = c .before .before .before .before .loop .inv .2
+same-length c = c .before .before .before .before .before .loop .inv .2
 
 same-length-2 : tie.Need-same-length-2 Inv-loop μ-loop
-same-length-2 c = c .before .before .before .before .loop .inv .3
+same-length-2 c = c .before .before .before .before .before .loop .inv .3
 
 returns : tie.Need-returns Inv-loop μ-loop
 returns c =
+    let test = c in
     let first = c .before in
-    let l = first .before .before .before in
-    went-quiet (l .loop .inv .4) (first .first-waiting .ensures) (c .if1 .taken) (l .loop .inv .0)
+    let l = first .before .before .before .before in
+    went-quiet (l .loop .inv .4) (first .first-waiting .ensures) (test .if1 .taken) (l .loop .inv .0)
 
 deliver-requires : tie.Need-deliver-requires Inv-loop μ-loop
 deliver-requires c κs =
-    let test = c .before .before in
-    let l = test .before .before .before .before in
-    record { laid = l .loop .inv .4 .laid; destination = l .before .before .before .before .pre .destination; direction = test .if1 .left }
+    let test = c .before .before .before in
+    let first = test .before in
+    let l = first .before .before .before .before in
+    let s = l .before .before .before .before in
+    record {
+      laid = l .loop .inv .4 .laid;
+      flagged = first .first-waiting .ensures .flagged;
+      destination = s .pre .destination;
+      direction = test .if1 .left;
+    }
 
 add-made : tie.Need-add-made Inv-loop μ-loop
 add-made c = search needs
@@ -54,10 +64,11 @@ loop-less c = search needs
 loop-again : tie.Need-loop-again Inv-loop μ-loop
 loop-again c =
     let done = c .before .before .before .before in
-    let test = done .before .before .before in
+    let test = done .before .before .before .before in
     let first = test .before in
-    let l = first .before .before .before in
-    let few = l .before .before .before .before .pre .few in
+    let l = first .before .before .before .before in
+    let s = l .before .before .before .before in
+    let few = s .pre .few in
     (omega arith, omega arith, search needs, search needs, went-more (l .loop .inv .4) (first .first-waiting .ensures) (test .if1 .left) (omega arith) (done .deliver .ensures))
 
 same-length-3 : tie.Need-same-length-3 Inv-loop μ-loop

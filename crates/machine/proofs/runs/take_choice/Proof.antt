@@ -18,7 +18,8 @@ returns : tie.Need-returns
 returns c =
     let test = c .before in
     let wait = test .before in
-    chose-idle (wait .before .before .before .before .before .pre) (sym (wait .waiting-at .ensures) ∙ test .if1 .taken)
+    let s = wait .before .before .before .before .before in
+    chose-idle (s .pre) (sym (wait .waiting-at .ensures) ∙ test .if1 .taken)
 
 deliver-requires : tie.Need-deliver-requires
 deliver-requires c κs = search needs
@@ -35,9 +36,10 @@ same-length-3 c = search needs
 returns-2 : tie.Need-returns-2
 returns-2 c =
     let done = c .before .before .before .before .before in
-    let test = done .before .before .before in
+    let test = done .before .before .before .before in
     let wait = test .before in
-    chose-delivered (wait .before .before .before .before .before .pre) (λ e. test .if1 .left (wait .waiting-at .ensures ∙ e)) (done .deliver .ensures)
+    let s = wait .before .before .before .before .before in
+    chose-delivered (s .pre) (λ e. test .if1 .left (wait .waiting-at .ensures ∙ e)) (done .deliver .ensures)
 
 pub take-choice-spec : {M : Type 1} → statement M
 take-choice-spec =

@@ -11,13 +11,15 @@ use Rattle.machine.proofs.runs.take_choices.Statement.{statement}
 use Rattle.machine.proofs.runs.take_choices.Tie as tie
 
 abbrev Inv-loop : tie.InvT-loop
-Inv-loop words m destination table₀ room₀ choices counts₀ i₀ table room counts i = (i ≤ length choices) × (length table ≡ length table₀) × (length room ≡ length room₀) × ChoseAll words m destination (take i choices) table₀ room₀ counts table room
+Inv-loop words m destination table₀ room₀ flags₀ choices counts₀ i₀ table room flags counts i = (i ≤ length choices) × (length table ≡ length table₀) × (length room ≡ length room₀) × ChoseAll words m destination (take i choices) table₀ room₀ counts table room flags
 
 abbrev μ-loop : tie.MeasureT-loop
-μ-loop words m destination table₀ room₀ choices counts₀ i₀ table room counts i = length choices - i
+μ-loop words m destination table₀ room₀ flags₀ choices counts₀ i₀ table room flags counts i = length choices - i
 
 loop-holds : tie.Need-loop-holds Inv-loop μ-loop
-loop-holds c = (omega arith, refl, refl, chose-none (c .before .before .before .before .pre .laid))
+loop-holds c =
+    let s = c .before .before .before .before in
+    (omega arith, refl, refl, chose-none (s .pre .laid) (s .pre .flagged))
 
 mul-wide : tie.Need-mul-wide Inv-loop μ-loop
 mul-wide c = search needs
@@ -30,14 +32,16 @@ wide-requires c κs = search needs
 
 take-choice-requires : tie.Need-take-choice-requires Inv-loop μ-loop
 take-choice-requires c κs =
-    let l = c .before .before .before .before .before in
+    let wide = c .before .before .before in
+    let inside = wide .before .before in
+    let l = inside .before in
     let s = l .before .before .before .before .before in
     let inv = l .loop .inv .3 in
-    let inside = c .before .before .before .before .loop-test .taken in
     record {
       laid = inv .laid;
+      flagged = inv .flagged;
       destination = s .pre .destination;
-      direction = rw (c .before .before .wide .ensures) (s .pre .directions (l .loop .i) inside);
+      direction = rw (wide .wide .ensures) (s .pre .directions (l .loop .i) (inside .loop-test .taken));
       few = omega (arith, inv .counts, length-take-le (l .loop .i) (s .args .choices .now) (l .loop .inv .0), s .pre .few);
     }
 
@@ -50,10 +54,10 @@ loop-less c = search needs
 loop-again : tie.Need-loop-again Inv-loop μ-loop
 loop-again c =
     let took = c .before .before .before .before in
-    let wide = took .before .before .before in
-    let l = wide .before .before .before in
-    let inside = wide .before .before .loop-test .taken in
-    (omega arith, search needs, search needs, chose-more _ _ (l .loop .inv .3) inside (wide .wide .ensures) (took .take-choice .ensures))
+    let wide = took .before .before .before .before in
+    let inside = wide .before .before in
+    let l = inside .before in
+    (omega arith, search needs, search needs, chose-more _ _ (l .loop .inv .3) (inside .loop-test .taken) (wide .wide .ensures) (took .take-choice .ensures))
 
 same-length : tie.Need-same-length Inv-loop μ-loop
 same-length c = c .before .loop .inv .1
@@ -63,8 +67,9 @@ same-length-2 c = c .before .loop .inv .2
 
 returns : tie.Need-returns Inv-loop μ-loop
 returns c =
-    let s = c .before .before .before .before .before .before in
-    rw (take-all (c .before .loop .i) (s .args .choices .now) (c .loop-test .left)) at (c .before .loop .inv .3)
+    let l = c .before in
+    let s = l .before .before .before .before .before in
+    rw (take-all (l .loop .i) (s .args .choices .now) (c .loop-test .left)) at (l .loop .inv .3)
 
 pub take-choices-spec : {M : Type 1} → statement M
 take-choices-spec =

@@ -1,7 +1,7 @@
--- Lines, places, blank directions and the origin's sending, one after the other, are the fresh start (`fresh-started`).
+-- Lines, room and the origin's sending, one after the other, are the fresh start (`fresh-started`).
 use native.Mathlib.Omega.{arith}
 use borrow.Author.Needs.{needs}
-use Rattle.machine.proofs.StartLaws.{list-long, fresh-started}
+use Rattle.machine.proofs.StartLaws.{list-long, may-ready, may-send, fresh-started}
 use Rattle.machine.proofs.start.fresh.Statement.{statement}
 use Rattle.machine.proofs.start.fresh.Tie as tie
 
@@ -11,24 +11,24 @@ mul-lay-lines c = search needs
 shared-slice-read-lay-lines : tie.Need-shared-slice-read-lay-lines
 shared-slice-read-lay-lines c =
     let s = c .before .before .before .before .before .before in
-    omega (arith, list-long (s .pre), s .pre .destination)
+    omega (arith, list-long (s .pre .0), s .pre .0 .destination)
 
 lay-lines-requires : tie.Need-lay-lines-requires
 lay-lines-requires c κs =
     let s = c .before .before .before .before .before .before in
-    (s .pre .table, list-long (s .pre))
+    (s .pre .0 .table, list-long (s .pre .0))
 
-place-ends-requires : tie.Need-place-ends-requires
-place-ends-requires c κs = search needs
-
-lay-pairs-requires : tie.Need-lay-pairs-requires
-lay-pairs-requires c κs = search needs
+lay-room-requires : tie.Need-lay-room-requires
+lay-room-requires c κs = may-ready (c .before .before .before .before .before .before .before .before .before .before .pre .0)
 
 pack-pair-requires : tie.Need-pack-pair-requires
 pack-pair-requires c κs = search needs
 
 send-requires : tie.Need-send-requires
-send-requires c κs = search needs
+send-requires c κs =
+    let room = c .before .before .before .before .before in
+    let s = room .before .before .before .before .before .before .before .before .before .before .before in
+    may-send (s .pre .0) (room .lay-room .ensures) (s .pre .1)
 
 same-length : tie.Need-same-length
 same-length c = search needs
@@ -40,11 +40,10 @@ returns : tie.Need-returns
 returns c =
     let sent = c .before .before in
     let pack = sent .before in
-    let blank = pack .before .before .before .before in
-    let ends = blank .before .before .before .before in
-    let lines = ends .before .before .before .before in
+    let room = pack .before .before .before .before .before in
+    let lines = room .before .before .before .before in
     let s = lines .before .before .before .before .before .before .before in
-    fresh-started (s .pre) (lines .lay-lines .ensures) (ends .place-ends .ensures) (blank .lay-pairs .ensures) (sent .send .ensures) (pack .pack-pair .ensures)
+    fresh-started (s .pre .0) (lines .lay-lines .ensures) (room .lay-room .ensures) (sent .send .ensures .0) (sent .send .ensures .1) (pack .pack-pair .ensures)
 
 pub fresh-spec : {M : Type 1} → statement M
 fresh-spec =
@@ -53,8 +52,7 @@ fresh-spec =
     mul-lay-lines
     shared-slice-read-lay-lines
     lay-lines-requires
-    place-ends-requires
-    lay-pairs-requires
+    lay-room-requires
     pack-pair-requires
     send-requires
     same-length

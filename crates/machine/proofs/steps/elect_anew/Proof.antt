@@ -19,15 +19,16 @@ elect-held-requires : tie.Need-elect-held-requires
 elect-held-requires c κs =
     let none = c .before .before in
     let s = none .before .before .before .before .before .before .before .before in
-    record { laid = s .pre .0; place = s .pre .1; fair = none-fair _ _ (none .offer-of .ensures) }
+    record { laid = s .pre .0; place = s .pre .2; fair = none-fair _ _ (none .offer-of .ensures) }
 
 take-line-requires : tie.Need-take-line-requires
 take-line-requires c κs =
-    let held = c .before .before in
+    let held = c .before .before .before in
     let none = held .before .before .before in
-    let s = none .before .before .before .before .before .before .before .before in
-    let best = best-none (s .pre .0) (s .pre .1) (none .before .before .before .number-at .ensures) (none .offer-of .ensures) (held .elect-held .ensures) in
-    record { table = omega (arith, s .pre .0 .table); room = s .pre .0 .room; word = word-fits (s .pre .0) (s .pre .1) best }
+    let number = none .before .before .before in
+    let s = number .before .before .before .before .before in
+    let best = best-none (s .pre .0) (s .pre .2) (number .number-at .ensures) (none .offer-of .ensures) (held .elect-held .ensures) in
+    record { table = omega (arith, s .pre .0 .table); sending = record { flagged = s .pre .1; count = _; place = s .pre .2; index = s .pre .0 .index }; word = word-fits (s .pre .0) (s .pre .2) best }
 
 same-length : tie.Need-same-length
 same-length c = search needs
@@ -38,11 +39,13 @@ same-length-2 c = search needs
 returns : tie.Need-returns
 returns c =
     let took = c .before .before .before .before in
-    let held = took .before .before .before in
+    let held = took .before .before .before .before in
     let none = held .before .before .before in
-    let s = none .before .before .before .before .before .before .before .before in
-    let best = best-none (s .pre .0) (s .pre .1) (none .before .before .before .number-at .ensures) (none .offer-of .ensures) (held .elect-held .ensures) in
-    elected-anew (s .pre .0) (s .pre .1) best (none .before .pair-at .ensures) (took .take-line .ensures)
+    let pair = none .before in
+    let number = pair .before .before in
+    let s = number .before .before .before .before .before in
+    let best = best-none (s .pre .0) (s .pre .2) (number .number-at .ensures) (none .offer-of .ensures) (held .elect-held .ensures) in
+    elected-anew (s .pre .0) (s .pre .2) best (pair .pair-at .ensures) (took .take-line .ensures)
 
 pub elect-anew-spec : {M : Type 1} → statement M
 elect-anew-spec =

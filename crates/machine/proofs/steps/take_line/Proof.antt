@@ -19,6 +19,7 @@ returns c =
     record {
       line = same .before .before .before .put-line .ensures;
       told = rw (sym (same .same .ensures) ∙ c .if1 .taken) refl;
+      flagged = c .before .before .before .before .before .before .before .before .before .pre .sending .flagged;
     }
 
 pack-pair-requires : tie.Need-pack-pair-requires
@@ -37,11 +38,12 @@ returns-2 : tie.Need-returns-2
 returns-2 c =
     let sent = c .before .before in
     let pack = sent .before in
-    let test = pack .before .before in
+    let test = pack .before .before .before in
     let same = test .before in
     record {
       line = same .before .before .before .put-line .ensures;
-      told = rw (sym (same .same .ensures) ∙ test .if1 .left) (rw (pack .pack-pair .ensures) at (sent .send .ensures));
+      told = rw (sym (same .same .ensures) ∙ test .if1 .left) (rw (pack .pack-pair .ensures) at (sent .send .ensures .0));
+      flagged = sent .send .ensures .1;
     }
 
 pub take-line-spec : {M : Type 1} → statement M

@@ -1,36 +1,44 @@
--- The AS is there, so the search finds it, and at its place (`at-place`).
-use native.Mathlib.Omega.{arith}
-use Rattle.offers.proofs.EndLaws.{somewhere, at-place}
+-- A hint is looked up in the list before it is taken, so it is the AS's place (`at-place`); else the search finds it.
+use mathlib.Core.Path.{refl}
 use borrow.Author.Needs.{needs}
+use Rattle.network.specs.declared.Place.the-variants.{At}
+use Rattle.offers.proofs.EndLaws.{at-place}
 use Rattle.offers.proofs.ends.place_in.Statement.{statement}
 use Rattle.offers.proofs.ends.place_in.Tie as tie
 
-place-of-requires : tie.Need-place-of-requires
-place-of-requires c κs = search needs
+hint-at-requires : tie.Need-hint-at-requires
+hint-at-requires c κs = search needs
 
-enum-known-i : tie.Need-enum-known-i
-enum-known-i c = search needs
+cast-at : tie.Need-cast-at
+cast-at c = search needs
 
-enum-told : tie.Need-enum-told
-enum-told c = search needs
+mul-if2 : tie.Need-mul-if2
+mul-if2 c = search needs
+
+shared-slice-read-if2 : tie.Need-shared-slice-read-if2
+shared-slice-read-if2 c = search needs
 
 returns : tie.Need-returns
 returns c =
-    let f = c .before .before in
-    absurd (somewhere (f .before .before .pre) (f .place-of .ensures) (c .enum-told .given .1))
+    let met = c .before .before in
+    let found = met .before in
+    let hint = found .hint-at .result in
+    at-place (found .before .before .pre) {r = At hint} (met .if1 .taken, c .if2 .taken) refl .1
 
-cast-result : tie.Need-cast-result
-cast-result c =
-    let f = c .before .before .before in
-    let h = at-place (f .before .before .pre) (f .place-of .ensures) (c .before .i .given .1) in
-    let s = f .before .before .pre .few in
-    omega arith
+search-in-requires : tie.Need-search-in-requires
+search-in-requires c κs = search needs
 
 returns-2 : tie.Need-returns-2
-returns-2 c =
-    let f = c .before .before .before in
-    at-place (f .before .before .pre) (f .place-of .ensures) (c .before .i .given .1) .1
+returns-2 c = search needs
 
 pub place-in-spec : {M : Type 1} → statement M
 place-in-spec =
-    tie.close (tie.spec place-of-requires enum-known-i enum-told returns cast-result returns-2)
+    tie.close
+    (tie.spec
+    hint-at-requires
+    cast-at
+    mul-if2
+    shared-slice-read-if2
+    returns
+    search-in-requires
+    returns-2)

@@ -27,7 +27,7 @@ first-pair-requires : tie.Need-first-pair-requires Inv-loop μ-loop
 first-pair-requires c κs = search needs
 
 put-entry-requires : tie.Need-put-entry-requires Inv-loop μ-loop
-put-entry-requires c κs = omega (arith, c .before .before .before .before .loop .inv .1 .long)
+put-entry-requires c κs = omega (arith, c .before .before .before .before .loop .inv .1 .lined .long)
 
 add-i : tie.Need-add-i Inv-loop μ-loop
 add-i c = omega arith
@@ -41,11 +41,11 @@ loop-again c =
     let turn = put .before .before .before .before .before in (
       omega arith,
       rw (put .put-entry .ensures, put .before .first-pair .ensures)
-          (begun-more _ _ _ _ _ (omega (arith, turn .loop .inv .1 .long)) (turn .loop .inv .1)),
+          (begun-more _ _ _ _ _ (omega (arith, turn .loop .inv .1 .lined .long)) (turn .loop .inv .1)),
     )
 
 same-length : tie.Need-same-length Inv-loop μ-loop
-same-length c = c .before .loop .inv .1 .long
+same-length c = c .before .loop .inv .1 .lined .long
 
 returns : tie.Need-returns Inv-loop μ-loop
 returns c =

@@ -1,0 +1,67 @@
+-- Lists and numbers alone. Assumes nothing.
+use mathlib.Core.Path.{_≡_, refl, sym, _∙_, ap, subst}
+use Prim.Native.Nat.{ℕ, _+_, _*_, _<_, _≤_}
+use native.Mathlib.Omega.{arith}
+use mathlib.Core.Bool.{Bool, true, false, cond}
+use mathlib.Core.List.{List, [], _∷_, _++_, map}
+use lib.Dec.{leb}
+use lib.ListN.{length, take, drop, replicate, length-replicate}
+use lib.Seq.{take-at}
+use borrow.Author.Tests.{le-leb, leb-true, leb-false}
+use Rattle.rules.specs.declared.Link.{Link}
+use Rattle.rules.specs.Network.{flat}
+use Rattle.rules.proofs.NetworkLaws.{flat-length}
+use Rattle.records.specs.Entries.{zeros, loaded, Holding}
+use mir.Val.{Val}
+use denote.Laws.{Is}
+use denote.Struct.Laws as LL
+use Rattle.records.specs.declared.Words.{Words}
+use Rattle.records.proofs.Words as S
+use Rattle.records.proofs.Words.Laws as S′
+
+pub not-both : (n : ℕ) → n ≤ 1536 → 1536 < n → ⊥
+not-both n l g = omega arith
+
+pub map-id : (xs : List ℕ) → map (λ (v : ℕ). v) xs ≡ xs
+map-id [] = refl
+map-id (x ∷ xs) = ap (λ (zs : List ℕ). x ∷ zs) (map-id xs)
+
+-- the array in `Words` has its length: a proof has `Is` of a parameter w as `c .good`
+pub words-length : (w : Words) (vs : List Val) → Is S.the-row w vs → length (w .words) ≡ 4608
+words-length w vs p = sym (ap (λ (xs : List ℕ). length xs) (map-id (w .words))) ∙ LL.owed S.the-type S′.the-laws w vs p .1 .0 .1 .0 .1
+
+-- few links, loaded: their words come first
+words-are : (ys : List Link) → length ys ≤ 1536 → take (3 * length ys) (loaded ys .words) ≡ flat ys
+words-are ys l = ap (λ (t : Bool). take (3 * length ys) (cond t (flat ys ++ drop (3 * length ys) zeros) zeros)) (le-leb (length ys) 1536 l) ∙ take-at (flat ys) (drop (3 * length ys) zeros) (3 * length ys) (flat-length ys)
+
+-- the two ways through an entry over `Words`
+pub holding-many : (w : Words) (P : List ℕ → Type 0) → 1536 < w .count → ((ls : List Link) → 1536 < length ls → P (flat ls)) → Holding w P
+holding-many w P g h = record { few = λ l. absurd (not-both (w .count) l g); many = λ _. h }
+
+pub holding-few : (w : Words) (P : List ℕ → Type 0) → w .count ≤ 1536 → P (take (3 * w .count) (w .words)) → Holding w P
+holding-few w P l h = record { few = λ _. h; many = λ g. absurd (not-both (w .count) l g) }
+
+-- what is said of the loaded links' words is said of the links'
+pub holding-loaded : (ls : List Link) (P : List ℕ → Type 0) → Holding (loaded ls) P → P (flat ls)
+holding-loaded ls P h = by-size (leb (length ls) 1536) refl
+  where
+    by-size : (t : Bool) → leb (length ls) 1536 ≡ t → P (flat ls)
+    by-size true e = subst P (words-are ls (leb-true (length ls) 1536 e)) (h .few (leb-true (length ls) 1536 e))
+    by-size false e = h .many (leb-false (length ls) 1536 e) ls (leb-false (length ls) 1536 e)
+
+-- more of what holds
+pub holding-map : (w : Words) (P Q : List ℕ → Type 0) → ((ws : List ℕ) → P ws → Q ws) → Holding w P → Holding w Q
+holding-map w P Q f h = record { few = λ l. f (take (3 * w .count) (w .words)) (h .few l); many = λ g ls k. f (flat ls) (h .many g ls k) }
+
+pub holding-both : (w : Words) (P Q : List ℕ → Type 0) → Holding w P → Holding w Q → Holding w (λ ws. P ws × Q ws)
+holding-both w P Q h k = record { few = λ l. (h .few l, k .few l); many = λ g ls m. (h .many g ls m, k .many g ls m) }
+
+-- what follows from any words, where it does not name them
+pub holding-some : (w : Words) (P : List ℕ → Type 0) (X : Type 0) → ((ws : List ℕ) → P ws → X) → Holding w P → X
+holding-some w P X f h = by-size (leb (w .count) 1536) refl
+  where
+    by-size : (t : Bool) → leb (w .count) 1536 ≡ t → X
+    by-size true e = f (take (3 * w .count) (w .words)) (h .few (leb-true (w .count) 1536 e))
+    by-size false e =
+        let many : List Link = replicate 1537 (record { a = 0; b = 0; relation = 0 }) in
+        f (flat many) (h .many (leb-false (w .count) 1536 e) many (omega (arith, length-replicate {A = Link} 1537 (record { a = 0; b = 0; relation = 0 }))))

@@ -1,0 +1,50 @@
+-- `records::loaded::stable_table` meets its contract: too many links are refused as every list of too many is, and few are the words lent.
+use mathlib.Core.Path.{sym}
+use native.Mathlib.Omega.{arith}
+use lib.Seq.{length-take-le}
+use borrow.Author.Needs.{needs}
+use Rattle.records.proofs.Laws.{words-length, holding-many, holding-few}
+use Rattle.records.proofs.ManyLaws.{tabled-many}
+use Rattle.records.proofs.loaded.stable_table.Statement.{statement}
+use Rattle.records.proofs.loaded.stable_table.Tie as tie
+
+returns : tie.Need-returns
+returns c = holding-many _ _ (c .if1 .taken) (λ ls g. tabled-many ls g _ _ _)
+
+mul-words : tie.Need-mul-words
+mul-words c = search needs
+
+array-share-prefix-words : tie.Need-array-share-prefix-words
+array-share-prefix-words c =
+    let start = c .before .before .before .before in
+    omega (arith, words-length (start .args .w) _ (start .good .0), c .before .if1 .left)
+
+slice-aggregate-stable-table : tie.Need-slice-aggregate-stable-table
+slice-aggregate-stable-table c = sym (length-take-le _ _ (array-share-prefix-words (c .before)))
+
+stable-table-requires : tie.Need-stable-table-requires
+stable-table-requires c κs = search needs
+
+same-length : tie.Need-same-length
+same-length c = search needs
+
+same-length-2 : tie.Need-same-length-2
+same-length-2 c = search needs
+
+returns-2 : tie.Need-returns-2
+returns-2 c =
+    let called = c .before .before .before .before in
+    holding-few _ _ (called .before .before .before .before .before .if1 .left) (called .stable-table .ensures)
+
+pub stable-table-spec : {M : Type 1} → statement M
+stable-table-spec =
+    tie.close
+    (tie.spec
+    returns
+    mul-words
+    array-share-prefix-words
+    slice-aggregate-stable-table
+    stable-table-requires
+    same-length
+    same-length-2
+    returns-2)

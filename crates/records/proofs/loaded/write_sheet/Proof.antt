@@ -1,0 +1,47 @@
+-- `records::loaded::write_sheet` meets its contract: too many links are refused as every list of too many is, and few are the words lent.
+use mathlib.Core.Path.{sym}
+use native.Mathlib.Omega.{arith}
+use lib.Seq.{length-take-le}
+use borrow.Author.Needs.{needs}
+use Rattle.records.proofs.Laws.{words-length, holding-many, holding-few}
+use Rattle.records.proofs.ManyLaws.{sheet-many}
+use Rattle.records.proofs.loaded.write_sheet.Statement.{statement}
+use Rattle.records.proofs.loaded.write_sheet.Tie as tie
+
+returns : tie.Need-returns
+returns c = holding-many _ _ (c .if1 .taken) (λ ls g. sheet-many ls g _ _ _)
+
+mul-words : tie.Need-mul-words
+mul-words c = search needs
+
+array-share-prefix-words : tie.Need-array-share-prefix-words
+array-share-prefix-words c =
+    let start = c .before .before .before .before in
+    omega (arith, words-length (start .args .w) _ (start .good .0), c .before .if1 .left)
+
+slice-aggregate-write-sheet : tie.Need-slice-aggregate-write-sheet
+slice-aggregate-write-sheet c = sym (length-take-le _ _ (array-share-prefix-words (c .before)))
+
+write-sheet-requires : tie.Need-write-sheet-requires
+write-sheet-requires c κs = search needs
+
+same-length : tie.Need-same-length
+same-length c = search needs
+
+returns-2 : tie.Need-returns-2
+returns-2 c =
+    let called = c .before .before in
+    holding-few _ _ (called .before .before .before .before .if1 .left)
+    (record { replies = called .write-sheet .ensures .0; written = called .write-sheet .ensures .1 })
+
+pub write-sheet-spec : {M : Type 1} → statement M
+write-sheet-spec =
+    tie.close
+    (tie.spec
+    returns
+    mul-words
+    array-share-prefix-words
+    slice-aggregate-write-sheet
+    write-sheet-requires
+    same-length
+    returns-2)

@@ -1,0 +1,7 @@
+pub mod PlaceLaws
+pub mod ReadLaws
+pub mod OrderLaws
+pub mod ReplyLaws
+pub mod WordLaws
+pub mod SheetLaws
+pub mod Unpacked
