@@ -81,6 +81,14 @@ fn say_text(text: &[u8]) {
     say_ases(&words, m);
 }
 
+// Refusal 3: a text gives the relations 0 and 1 only, so it takes link words.
+fn on_relation_2() {
+    let words = [1u32, 2, 2];
+    io::write_all(STDOUT_FILENO, b"relation_2");
+    say_links(&words);
+    io::write_all(STDOUT_FILENO, b"\n");
+}
+
 // One link text: its name, then what is said of it.
 fn on(path: &[u8]) {
     let fd = os::open_read(path);
@@ -129,6 +137,7 @@ fn main() {
     on(b"ases_513");
     on(b"bytes_65536");
     on(b"bytes_65537");
+    on_relation_2();
     program_on(b"program_65536_bytes");
     program_on(b"program_65537_bytes");
     program_on(b"program_ring");
