@@ -19,17 +19,6 @@ fn is_fresh(archive: &Path, sources: &[PathBuf]) -> bool {
     made.is_ok_and(|made| sources.iter().all(|source| newest(source) <= made))
 }
 
-/// Sets `cfg(name)` for those functions that the archive exports beside the four: the benchmark's 'table alone' asks for them.
-fn tell_exports(archive: &Path) {
-    let bytes = fs::read(archive).expect("the archive was just made");
-    for name in ["bostuvrel_table", "bench_table"] {
-        println!("cargo:rustc-check-cfg=cfg({name})");
-        if bytes.windows(name.len()).any(|part| part == name.as_bytes()) {
-            println!("cargo:rustc-cfg={name}");
-        }
-    }
-}
-
 fn main() {
     let package = PathBuf::from(env::var_os("CARGO_MANIFEST_DIR").expect("cargo says where the package lies"));
     let root = package.parent().expect("the package lies in the repository");
@@ -47,7 +36,6 @@ fn main() {
             "`rt staticlib storefront` failed: is the Rattle toolchain on the PATH?"
         );
     }
-    tell_exports(&archive);
     println!("cargo:rustc-link-search=native={}", folder.display());
     println!("cargo:rustc-link-lib=static=storefront");
 }

@@ -27,6 +27,7 @@ pub use machine::{run, Ran};
 pub use networks::{Link, Network};
 pub use program::program;
 pub use sheets::{judge, read_sheet, sheet, text_to_sheet};
+pub use tables::table;
 pub use texts::read_text;
 pub use walks::{follow, types};
 

@@ -1,5 +1,5 @@
 //! The stable table, by repeating its own rule.
-use super::{Line, Network};
+use super::{Line, Link, Network, No};
 use std::collections::{BTreeMap, HashMap};
 
 impl Network {
@@ -27,4 +27,14 @@ impl Network {
         }
         panic!("the lines to {d} do not settle");
     }
+}
+
+/// Links to the stable table, into so many words: refusals 1 to 6, then 7, then 8.
+pub fn table(links: &[Link], d: u32, words: usize) -> Result<BTreeMap<u32, Line>, No> {
+    let net = Network::new(links)?;
+    let lines = net.table(d).ok_or((7, 0))?;
+    if words < 4 * lines.len() {
+        return Err((8, 0));
+    }
+    Ok(lines)
 }

@@ -1,8 +1,8 @@
-//! The four exported functions of the proved crate `storefront`, and how their replies are packed.
+//! The six exported functions of the proved crate `storefront`, and how their replies are packed.
 //!
 //! A slice passes as a pointer and a count of elements. The reply's top byte is the refusal number, 0 for accepted; then the low 56
 //! bits are the value, or bits 28 to 55 the place and bits 0 to 27 its second number.
-use crate::{Counts, Findings, Refusal};
+use crate::{Counts, Findings, Link, Refusal};
 
 extern "C" {
     fn bostuvrel_sheet(text: *const u8, text_len: usize, destination: u32, sheet: *mut u8, sheet_len: usize) -> u64;
@@ -18,6 +18,8 @@ extern "C" {
         table: *mut u32,
         table_len: usize,
     ) -> u64;
+    fn bostuvrel_check(links: *const Link, links_len: usize) -> u64;
+    fn bostuvrel_table(links: *const Link, links_len: usize, destination: u32, table: *mut u32, table_len: usize) -> u64;
 }
 
 /// The low so many bits of a word, from one of its bits on.
@@ -70,4 +72,18 @@ pub fn run(text: &[u8], destination: u32, choices: &[u32], further: u32, table: 
     };
     let value = reply(packed)?;
     Ok(Counts { deliveries: bits(value, 0, 20), idle: bits(value, 20, 20), quiet: bits(value, 40, 1) == 1 })
+}
+
+/// The value is the number of ASes.
+pub fn check(links: &[Link]) -> Result<usize, Refusal> {
+    // SAFETY: the slice is lent for the call, with its own length, and only read; a link is a `repr(C)` record of three words, as there.
+    reply(unsafe { bostuvrel_check(links.as_ptr(), links.len()) }).map(|ases| ases as usize)
+}
+
+/// The value is the number of words written.
+pub fn table(links: &[Link], destination: u32, table: &mut [u32]) -> Result<usize, Refusal> {
+    // SAFETY: both slices are lent for the call, with their own lengths; the library reads the one, whose links are `repr(C)` records of
+    // three words, as there, and writes the other within it.
+    let packed = unsafe { bostuvrel_table(links.as_ptr(), links.len(), destination, table.as_mut_ptr(), table.len()) };
+    reply(packed).map(|written| written as usize)
 }

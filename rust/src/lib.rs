@@ -13,9 +13,11 @@
 //! | know whether a sheet is right | [`judge`] | yes, or the first reason why not |
 //! | know whether a network has a customer ring, and is joined | [`findings`] | [`Findings`] |
 //! | watch the routes settle, message by message | [`run`], [`run_into`] | [`Counts`] and the lines of that moment |
+//! | check links in memory | [`check_links`] | how many ASes they name |
+//! | work out the routes over links in memory | [`stable_table`], [`stable_table_into`] | the lines, or their words in memory of yours |
 //!
-//! Texts and sheets are taken as anything that lends bytes: `&str`, `&[u8]`, `Vec<u8>`, `&Sheet`. Nothing has to be checked before a
-//! call: every input gets a result or a [`Refusal`] with a number, a place and plain words.
+//! Texts and sheets are taken as anything that lends bytes: `&str`, `&[u8]`, `Vec<u8>`, `&Sheet`; links in memory as a slice of [`Link`].
+//! Nothing has to be checked before a call: every input gets a result or a [`Refusal`] with a number, a place and plain words.
 //!
 //! ```
 //! use bostuvrel::{Kind, Line};
@@ -31,12 +33,17 @@
 
 mod boundary;
 mod line;
+mod link;
 mod refusal;
 mod sheet;
 
 pub use line::{Kind, Line};
+pub use link::Link;
 pub use refusal::Refusal;
 pub use sheet::Sheet;
+
+/// The most links that a network may have.
+pub const MOST_LINKS: usize = 1_536;
 
 /// The most bytes that a text or a sheet may have.
 pub const MOST_BYTES: usize = 65_536;
@@ -49,6 +56,11 @@ pub const LONGEST_SHEET: usize = 10 + 11 * 512;
 
 /// The most words that the library writes for a table: four for each of 512 ASes.
 pub const LONGEST_TABLE: usize = 4 * 512;
+
+/// The lines of a table's words.
+fn lines_of(table: &[u32]) -> impl Iterator<Item = Line> + '_ {
+    table.chunks_exact(4).map(|words| Line::from([words[0], words[1], words[2], words[3]]))
+}
 
 /// The route sheet of the stable routes to `destination` over the links of `text`.
 ///
@@ -173,9 +185,8 @@ pub struct Run {
 pub fn run(text: impl AsRef<[u8]>, destination: u32, choices: &[u32], further: u32) -> Result<Run, Refusal> {
     let mut table = vec![0; LONGEST_TABLE];
     let counts = run_into(text, destination, choices, further, &mut table)?;
-    let entries = table.chunks_exact(4).map(|words| [words[0], words[1], words[2], words[3]]);
     // No AS has number 0, so the entries end where one would
-    let lines = entries.take_while(|words| words[0] != 0).map(Line::from).collect();
+    let lines = lines_of(&table).take_while(|line| line.number != 0).collect();
     Ok(Run { counts, lines })
 }
 
@@ -200,4 +211,63 @@ pub fn run_into(
     table: &mut [u32],
 ) -> Result<Counts, Refusal> {
     boundary::run(text.as_ref(), destination, choices, further, table)
+}
+
+/// How many ASes the links name, if they can be a network.
+///
+/// ```
+/// use bostuvrel::Link;
+/// let mut links = [Link::provides(10, 20), Link::peers(20, 30)];
+/// assert_eq!(bostuvrel::check_links(&links)?, 3);
+///
+/// links[1].relation = 2;
+/// let refused = bostuvrel::check_links(&links).unwrap_err();
+/// assert_eq!((refused.number(), refused.place()), (3, 1));
+/// # Ok::<(), bostuvrel::Refusal>(())
+/// ```
+///
+/// # Errors
+/// Refusal 1 for more than [`MOST_LINKS`]; else the first link that cannot be in a network, with its index.
+pub fn check_links(links: &[Link]) -> Result<usize, Refusal> {
+    boundary::check(links)
+}
+
+/// The lines of the stable routes to `destination` over links in memory, ASes ascending.
+///
+/// ```
+/// use bostuvrel::Link;
+/// let links = [Link::provides(10, 20), Link::provides(20, 30), Link::provides(30, 40), Link::peers(10, 40), Link::provides(10, 50)];
+/// let lines = bostuvrel::stable_table(&links, 40)?;
+/// assert_eq!(lines[4].to_string(), "50 provider 4 by 10");
+/// // The lines are those of the sheet
+/// assert!(bostuvrel::sheet("10|20|-1\n20|30|-1\n30|40|-1\n10|40|0\n10|50|-1\n", 40)?.lines().eq(lines));
+/// # Ok::<(), bostuvrel::Refusal>(())
+/// ```
+///
+/// # Errors
+/// As [`check_links`], and refusal 7 for a destination that no link names.
+pub fn stable_table(links: &[Link], destination: u32) -> Result<Vec<Line>, Refusal> {
+    let mut table = vec![0; LONGEST_TABLE];
+    let written = stable_table_into(links, destination, &mut table)?;
+    Ok(lines_of(&table[..written]).collect())
+}
+
+/// The same into a table of the caller's, four words for each AS: number, type, length, next hop. How many words were written. Words
+/// beyond them stay as they were, and a refusal leaves all of them as they were. [`LONGEST_TABLE`] words always suffice.
+///
+/// ```
+/// use bostuvrel::Link;
+/// let mut table = [77; 12];
+/// assert_eq!(bostuvrel::stable_table_into(&[Link::provides(1, 2)], 2, &mut table)?, 8);
+/// assert_eq!(table, [1, 1, 1, 2, 2, 1, 0, 2, 77, 77, 77, 77]);
+///
+/// let refused = bostuvrel::stable_table_into(&[Link::provides(1, 2)], 2, &mut table[..7]).unwrap_err();
+/// assert_eq!((refused.number(), refused.place()), (8, 0));
+/// # Ok::<(), bostuvrel::Refusal>(())
+/// ```
+///
+/// # Errors
+/// As [`stable_table`], and refusal 8 where the table is too short.
+pub fn stable_table_into(links: &[Link], destination: u32, table: &mut [u32]) -> Result<usize, Refusal> {
+    boundary::table(links, destination, table)
 }

@@ -31,7 +31,7 @@ impl Refusal {
     ///
     /// | number | place |
     /// |---|---|
-    /// | 2 to 6 | the link, counted from 0 over the lines that are no comments |
+    /// | 2 to 6 | the link, counted from 0 over the records, or over the lines that are no comments |
     /// | 8 | 0 for the output, 1 for the working room |
     /// | 9 | the line of the text, counted from 1, comments included |
     /// | 10 | the byte of the sheet, counted from 0 |

@@ -4,7 +4,8 @@ ghost use mathlib.Core.Path.{_≡_};
 ghost use lib.ListN.{length, replicate};
 ghost use Rattle.rules.specs.Network.{linksOf};
 ghost use Rattle.rules.specs.Findings.{ringed, joined};
-ghost use Rattle.rules.specs.Checks.{baseLimits};
+ghost use Rattle.rules.specs.declared.Checked.the-variants.{Accepted};
+ghost use Rattle.rules.specs.Checks.{baseLimits, checkWords};
 ghost use Rattle.rules.specs.Entry.{cleared};
 ghost use Rattle.findings.specs.Entries.{replyFindings, findingsReply, roomAfter};
 ghost use Rattle.findings.specs.Rooms.{partsOf, asesIn, shortFault, Laid, Counted, Roomy};
@@ -18,7 +19,6 @@ mod order;
 mod passes;
 mod ranks;
 mod ring;
-mod scratch;
 mod tops;
 
 // Whether there is a customer ring, and whether the network is joined; or a refusal.
@@ -55,6 +55,9 @@ impl Parts {
         }
     }
 }
+
+// Where the heads of an index (offers::scratch) begin: one for each AS.
+const HEADS: usize = 3072;
 
 // Relations of links.
 const PEERS: u32 = 0;
@@ -113,17 +116,23 @@ fn find_with(words: &[u32], n: usize, list: &mut [u32], room: &mut [u32]) -> Fou
     find_in(words, list, room)
 }
 
+// The findings on accepted links with n ASes, or refusal 8. The list of ASes holds 512.
+pub fn find_accepted(words: &[u32], n: usize, room: &mut [u32]) -> Found
+    requires { ⌜ checkWords baseLimits (now words) ≡ Accepted n ⌝ }
+    ensures { λ r. ⌜ r ≡ findingsReply baseLimits (now (words .entry)) (length (now (room .entry))) ⌝ }
+    ensures { λ _. ⌜ now (room .exit) ≡ roomAfter baseLimits (now (words .entry)) (now (room .entry)) ⌝ }
+{
+    let mut list = [0u32; 512];
+    find_with(words, n, &mut list, room)
+}
+
 // Whether there is a customer ring, and whether the network is joined. The room is zero afterwards; a refusal leaves it as it was.
 pub fn find(words: &[u32], room: &mut [u32]) -> Found
     ensures { λ r. ⌜ r ≡ findingsReply baseLimits (now (words .entry)) (length (now (room .entry))) ⌝ }
     ensures { λ _. ⌜ now (room .exit) ≡ roomAfter baseLimits (now (words .entry)) (now (room .entry)) ⌝ }
 {
-    let checked = network::check_links(words);
-    match checked {
-        Checked::Accepted(n) => {
-            let mut list = [0u32; 512];
-            find_with(words, n, &mut list, room)
-        }
-        Checked::Refused(r) => Found::Refused(r),
+    match network::check_links(words) {
+        Checked::Accepted(n) => find_accepted(words, n, room),
+        Checked::Refused(why) => Found::Refused(why),
     }
 }

@@ -6,20 +6,29 @@ ghost use Rattle.network.specs.Promises.{HasLink};
 ghost use Rattle.findings.specs.Rooms.{Laid};
 ghost use Rattle.findings.specs.Joinings.{Hinted};
 use super::DOWN;
+use super::HEADS;
 use super::PEERS;
 use super::Parts;
 use super::Pass;
 use super::UP;
 use super::passes;
-use super::scratch;
+use offers::scratch;
 
 // Both directions of link i, if it is one of peers.
 fn note_link(words: &[u32], places: &[u32], index: &mut [u32], i: usize)
     requires { ⌜ HasLink (now words) i × (i < 1536) ⌝ }
 {
     if network::link_at(words, i).relation == PEERS {
-        scratch::note(index, 2 * i, scratch::at(places, 2 * i + 1));
-        scratch::note(index, 2 * i + 1, scratch::at(places, 2 * i));
+        scratch::note(
+            index,
+            scratch::head_of(HEADS, scratch::at(places, 2 * i + 1)),
+            2 * i,
+        );
+        scratch::note(
+            index,
+            scratch::head_of(HEADS, scratch::at(places, 2 * i)),
+            2 * i + 1,
+        );
     }
 }
 
@@ -68,7 +77,7 @@ fn meet_noted(words: &[u32], room: &mut [u32], parts: Parts, noted: u32)
 // The direction noted last for the AS at place p.
 fn first_noted(index: &[u32], p: usize) -> u32 {
     if p < 512 {
-        return scratch::last_noted(index, p as u32);
+        return scratch::at(index, scratch::head_of(HEADS, p as u32));
     }
     0
 }

@@ -3,13 +3,13 @@
 ghost use Prim.Native.Nat.{_<_};
 ghost use Rattle.network.specs.Promises.{HasLink};
 use super::PROVIDES;
-use super::scratch;
+use offers::scratch;
 
-// The ASes of the largest network: what the scratch memory has words for.
-const ASES: usize = 512;
+// The index notes provider links, under the places of their customers.
+const CUSTOMERS: usize = 1536;
 
-// The state. Words to ASES: how many customers the AS at a place has left. ASes that have none wait in a stack behind: an AS is marked
-// by one more than its place, so that 0 is none; word ASES has the mark on top, the words past it the mark below, by mark.
+// The state. Words to ASES: how many customers the AS at a place has left. ASes that have none wait in a stack: an AS is marked by one more
+// than its place, so that 0 is none; word ASES has the mark on top, and the word of an AS that waits the mark below it.
 
 // One customer more for the AS at a place.
 fn gain_customer(state: &mut [u32], place: usize) {
@@ -34,7 +34,11 @@ fn note_link(words: &[u32], places: &[u32], index: &mut [u32], state: &mut [u32]
     requires { ⌜ HasLink (now words) i × (i < 1536) ⌝ }
 {
     if network::link_at(words, i).relation == PROVIDES {
-        scratch::note(index, 2 * i, scratch::at(places, 2 * i + 1));
+        scratch::note(
+            index,
+            scratch::head_of(CUSTOMERS, scratch::at(places, 2 * i + 1)),
+            i,
+        );
         gain_customer(state, scratch::at(places, 2 * i) as usize);
     }
 }
@@ -51,17 +55,22 @@ fn note_links(words: &[u32], places: &[u32], index: &mut [u32], state: &mut [u32
 
 // The AS at a place waits.
 fn push(state: &mut [u32], place: usize) {
-    if place < ASES {
-        let mark = place + 1;
-        scratch::put(state, ASES + mark, scratch::at(state, ASES));
-        scratch::put(state, ASES, mark as u32);
+    if place < scratch::ASES {
+        scratch::put(state, place, scratch::at(state, scratch::ASES));
+        scratch::put(state, scratch::ASES, (place + 1) as u32);
     }
 }
 
 // The mark on top, taken off.
 fn pop(state: &mut [u32]) -> u32 {
-    let mark = scratch::at(state, ASES);
-    scratch::put(state, ASES, scratch::at(state, ASES + (mark as usize)));
+    let mark = scratch::at(state, scratch::ASES);
+    if 0 < mark {
+        scratch::put(
+            state,
+            scratch::ASES,
+            scratch::at(state, (mark - 1) as usize),
+        );
+    }
     mark
 }
 
@@ -88,18 +97,18 @@ fn free(state: &mut [u32], place: usize) {
     }
 }
 
-// Where the far end of a noted direction stands.
-fn far_end(places: &[u32], noted: u32) -> usize
+// Where the provider of a noted link stands.
+fn provider_of(places: &[u32], noted: u32) -> usize
     requires { ⌜ 0 < noted ⌝ }
 {
-    scratch::at(places, (noted - 1) as usize) as usize
+    scratch::at(places, 2 * ((noted - 1) as usize)) as usize
 }
 
 // The AS at a place is taken away from its providers.
 fn free_providers(places: &[u32], index: &[u32], state: &mut [u32], place: u32) {
-    let mut noted = scratch::last_noted(index, place);
+    let mut noted = scratch::at(index, scratch::head_of(CUSTOMERS, place));
     while 0 < noted {
-        free(state, far_end(places, noted));
+        free(state, provider_of(places, noted));
         noted = scratch::noted_before(index, noted);
     }
 }
@@ -128,8 +137,8 @@ fn take_all(places: &[u32], index: &[u32], state: &mut [u32], ranks: &mut [u32])
 
 // The rank of each of n ASes by its place, in the order in which they go; who never goes keeps 0.
 pub fn rank(words: &[u32], places: &[u32], n: usize, ranks: &mut [u32]) {
-    let mut index = [0u32; 3584];
-    let mut state = [0u32; 1025];
+    let mut index = [0u32; 2048];
+    let mut state = [0u32; 513];
     note_links(words, places, &mut index, &mut state);
     wait_all(&mut state, n);
     take_all(places, &index, &mut state, ranks);

@@ -9,8 +9,8 @@ ghost use Rattle.findings.specs.Ranks.{Lower, FallsAt, Falls, Spared};
 use super::PROVIDES;
 use super::Parts;
 use super::cells;
-use super::scratch;
 use network::link_at;
+use offers::scratch;
 
 // Whether the lower rank may stand below the upper one.
 fn may_fall(upper: u32, lower: u32) -> bool

@@ -19,7 +19,8 @@ use Rattle.rules.specs.declared.Checked.the-variants.{Accepted, Refused}
 use Rattle.rules.specs.Network.{flat}
 use Rattle.linktext.specs.Texts.{TextRead, links, refused}
 use Rattle.linktext.specs.Entries.{filled}
-use Rattle.linktext.specs.Scratch.{withLink, ReadInto}
+use Rattle.network.specs.Promises.{withLink}
+use Rattle.linktext.specs.Scratch.{ReadInto}
 
 pub length-flat : (ls : List Link) → length (flat ls) ≡ 3 * length ls
 unfolding flat

@@ -24,7 +24,8 @@ use Rattle.linktext.specs.declared.LineRead.{LineRead}
 use Rattle.linktext.specs.declared.LineRead.the-variants.{Skip, Reads, Faulty}
 use Rattle.linktext.specs.Lines.{lf}
 use Rattle.linktext.specs.Texts.{linesOf, TextRead, links, refused, andLink, takeLine, readLines}
-use Rattle.linktext.specs.Scratch.{withLink, ReadInto}
+use Rattle.network.specs.Promises.{withLink}
+use Rattle.linktext.specs.Scratch.{ReadInto}
 use Rattle.linktext.specs.Usual.{Gives}
 use Rattle.linktext.proofs.LineRead.{the-type}
 use Rattle.linktext.proofs.PlaceLaws.{place-within, first-line}

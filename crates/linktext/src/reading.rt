@@ -6,7 +6,6 @@ use crate::quick::LF;
 use crate::quick::quick_link;
 use rules::Checked;
 use rules::Limits;
-use rules::Link;
 use rules::Refusal;
 ghost use mathlib.Core.Path.{_≡_};
 ghost use Prim.Native.Nat.{_+_, _*_, _≤_};
@@ -15,24 +14,13 @@ ghost use lib.ListN.{length, take, drop};
 ghost use Rattle.rules.specs.Checks.{baseLimits};
 ghost use Rattle.linktext.specs.Texts.{linesOf, readLines, textIn};
 ghost use Rattle.linktext.specs.Entries.{fitted, filled, readReply, wordsAfter};
-ghost use Rattle.linktext.specs.Scratch.{withLink, ReadInto};
+ghost use Rattle.linktext.specs.Scratch.{ReadInto};
 ghost use Rattle.linktext.specs.Usual.{Gives};
 
 // What a line gives, and where it ends: at its LF or with the text.
 struct LineAt {
     end: usize,
     read: LineRead,
-}
-
-// Link n into the words.
-fn put_link(words: &mut [u32], n: usize, link: Link)
-    requires { ⌜ 3 * n + 3 ≤ length (now words) ⌝ }
-    ensures { λ _. ⌜ now (words .exit) ≡ withLink (now (words .entry)) n link ⌝ }
-{
-    let at = 3 * n;
-    words[at] = link.a;
-    words[at + 1] = link.b;
-    words[at + 2] = link.relation;
 }
 
 // What the line that begins at `at` gives, whatever it holds.
@@ -79,7 +67,7 @@ fn read_lines(text: &[u8], most: usize, words: &mut [u32]) -> Checked
             if most <= n {
                 return Checked::Refused(Refusal::OverLimit);
             }
-            put_link(words, n, link);
+            network::put_link(words, n, link);
             n += 1;
         }
         line += 1;

@@ -85,9 +85,9 @@ choices-good directions j (c ∷ cs) e i h = go (ltb c directions) refl e (choic
 
 -- A run that passes -----------------------------------------------------------------------------------------------------------------
 
-quiet-is : {ws : List ℕ} {m : ℕ} {rest : List ℕ} {run : Run} {c : Counts} {t r : List ℕ} → Laid ws m t r → Reached ws m rest run c t r
+quiet-is : {ws : List ℕ} {m d : ℕ} {rest : List ℕ} {run : Run} {c : Counts} {t r : List ℕ} → Laid ws m t r → Reached ws m d rest run c t r
     → (k : ℕ) → FirstWaiting m r k → eqb k (2 * m) ≡ isQuiet (lowest (netOf ws) (run .state .waiting))
-quiet-is {ws} {m} {rest} {run} {c} {t} {r} l h k f = go (decLt k (2 * m))
+quiet-is {ws} {m} {d} {rest} {run} {c} {t} {r} l h k f = go (decLt k (2 * m))
   where
     go : Dec (k < 2 * m) → eqb k (2 * m) ≡ isQuiet (lowest (netOf ws) (run .state .waiting))
     go (yes i) = rw (ne-eqb k (2 * m) (λ e. omega arith), lowest-here l (h .holds) k f i)

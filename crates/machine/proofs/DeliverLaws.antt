@@ -1,4 +1,4 @@
--- A delivery in table and room: two stores move the waiting pair to held, and then the hearer has elected anew, or is the destination.
+-- A delivery in table and room: two stores move the waiting pair to held, and then the hearer's line is amended, or it is the destination.
 use Prim.Native.Nat.{ℕ, _+_, _*_, _≤_, _<_}
 use mathlib.Core.Path.{_≡_, refl, sym, _∙_, ap}
 use mathlib.Core.Logic.{_≢_}
@@ -19,7 +19,7 @@ use Rattle.rules.proofs.MachineCounts.{by-changed}
 use Rattle.offers.specs.declared.Way.{Way}
 use Rattle.offers.specs.Ways.{arcAt, wayAt}
 use Rattle.machine.specs.Room.{pairOf, waitOf, heldAt, waitAt, netOf, asesIn, asAt, Flagged, Laid, Holds}
-use Rattle.machine.specs.Steps.{Anew, Delivering, Delivered}
+use Rattle.machine.specs.Steps.{Amending, Amended, Delivering, Delivered}
 use Rattle.machine.proofs.BlockLaws.{flagged-less}
 use Rattle.machine.proofs.HeldLaws.{as-place, laid-way, laid-direction, laid-arc}
 use Rattle.machine.proofs.StateLaws.{wait-pair, laid-room}
@@ -84,45 +84,44 @@ module _ {ws : List ℕ} {m d k : ℕ} {t r f : List ℕ} (g : Delivering ws m d
           ap waitOf (moved-word (4 * m + j) (λ f. omega arith) (λ f. ne (omega arith))) ∙ h .waiting j i
           ∙ sym (changed-other (s .waiting) k nothing j ne)
 
-  -- q is the room then, and who hears over direction k elects
+  -- q is the room then, and w direction k
   module _ (q : List ℕ) (now : q ≡ moved m r k) (w : Way) (is : w ≡ wayAt (linksOf ws) q k) where
-    pub now-laid : Laid ws m t q
-    now-laid = rw now moved-laid
+    pub may-amend : Amending ws m k w t q f
+    may-amend = record { laid = rw now moved-laid; flagged = rw now moved-flagged; direction = g .direction; way = is }
 
-    pub now-flagged : Flagged m q f
-    now-flagged = rw now moved-flagged
-
-    pub hearer-in : w .hearer < asesIn ws
-    hearer-in = rw is (laid-way now-laid k (g .direction) .hearer-in)
+    hearer-in : w .hearer < asesIn ws
+    hearer-in = rw is (laid-way (may-amend .laid) k (g .direction) .hearer-in)
 
     hears : asAt ws (w .hearer) ≡ receiver (netOf ws) k
     hears =
         let i = g .direction in
         let a = arcAt (linksOf ws) k in
-        rw is (laid-way now-laid k i .hearer)
-        ∙ sym (receiver-is (netOf ws) (direction-unique (linksOf ws)) a (laid-arc now-laid k i))
-        ∙ ap (receiver (netOf ws)) (laid-direction now-laid k i)
+        rw is (laid-way (may-amend .laid) k i .hearer)
+        ∙ sym (receiver-is (netOf ws) (direction-unique (linksOf ws)) a (laid-arc (may-amend .laid) k i))
+        ∙ ap (receiver (netOf ws)) (laid-direction (may-amend .laid) k i)
 
     pub deliver-home : w .hearer ≡ d → Delivered ws m d k t r t q f
     unfolding deliver elected
     deliver-home e =
         let home : receiver (netOf ws) k ≡ asAt ws d = sym hears ∙ ap (asAt ws) e in
         record {
-          laid = now-laid;
-          flagged = now-flagged;
-          after = λ rest s p b h f short long fits.
+          laid = may-amend .laid;
+          flagged = may-amend .flagged;
+          after = λ rest s p b h ok f short long fits.
               rw (now, eq-eqb (receiver (netOf ws) k) (asAt ws d) home) (moved-holds p h f);
         }
 
-    pub deliver-anew : w .hearer ≢ d → {t′ r′ f′ : List ℕ} → Anew ws m t q (w .hearer) t′ r′ f′ → Delivered ws m d k t r t′ r′ f′
+    -- the line that is amended was elected over what was held before
+    pub deliver-amended : w .hearer ≢ d → {t′ r′ f′ : List ℕ} → Amended ws m k t q (w .hearer) t′ r′ f′ → Delivered ws m d k t r t′ r′ f′
     unfolding deliver
-    deliver-anew ne a =
+    deliver-amended ne a =
         let off : asAt ws (w .hearer) ≢ asAt ws d = (λ e. ne (as-place ws (w .hearer) d hearer-in (g .destination) e)) in
         record {
           laid = a .laid;
           flagged = a .flagged;
-          after = λ rest s p b h f short long fits.
+          after = λ rest s p b h ok f short long fits.
               rw (← hears)
-              (a .after rest _ (asAt ws d) b (rw now (moved-holds p h f))
+              (a .after rest _ (s .held) (asAt ws d) b (rw now (moved-holds p h f)) (ok .line (asAt ws (w .hearer)) off)
+              (λ j. changed-other (s .held) k p j)
               (λ j. by-changed (λ (x : TypeLength). x .length ≤ b) (s .held) k p long j (short j)) fits off);
         }

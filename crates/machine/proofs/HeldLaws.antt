@@ -47,6 +47,13 @@ laid-direction {ws} l k h = arc-direction (linksOf ws) k (omega (arith, l .links
 pub laid-arc : {ws : List ℕ} {m : ℕ} {t r : List ℕ} → Laid ws m t r → (k : ℕ) → k < 2 * m → In (arcAt (linksOf ws) k) (netOf ws)
 laid-arc {ws} l k h = arc-in (linksOf ws) k (omega (arith, l .links))
 
+pub laid-over : {ws : List ℕ} {m : ℕ} {t r : List ℕ} → Laid ws m t r → (k : ℕ) → k < 2 * m → {w : Way} → w ≡ wayAt (linksOf ws) r k
+    → {x : ℕ} → x ≡ numberAt t (w .neighbour) → OverWay w x (arcAt (linksOf ws) k)
+laid-over {ws} {m} {t} {r} l k h {w} is {x} f =
+    let at : WayArc (asesOf (linksOf ws)) w (arcAt (linksOf ws) k) = rw is (laid-way l k h) in
+    let from : arcAt (linksOf ws) k .neighbour ≡ x = sym (at .neighbour) ∙ sym (l .numbers (w .neighbour) (at .neighbour-in)) ∙ sym f in
+    record { kind = at .kind; cost = at .cost; rank = arcs-rank (linksOf ws) (arcAt (linksOf ws) k) (laid-arc l k h) ∙ from; neighbour = from }
+
 -- One direction -------------------------------------------------------------------------------------------------------------
 
 module _ {ws : List ℕ} {m : ℕ} {t r : List ℕ} {k : ℕ} {o : Offered} (h : Hearing ws m t r k o)
@@ -68,15 +75,8 @@ module _ {ws : List ℕ} {m : ℕ} {t r : List ℕ} {k : ℕ} {o : Offered} (h :
       → Considered o w x p o′ → Heard ws m r (hearerAt r k) k o o′
   unfolding arc
   hear-own x p o′ f g c =
-      let from : arc .neighbour ≡ x = sym (at .neighbour) ∙ sym (h .laid .numbers (w .neighbour) (at .neighbour-in)) ∙ sym f in
       let own : arc .hearer ≡ asAt ws (hearerAt r k) = sym (laid-way (h .laid) k (h .direction) .hearer) in
-      let over : OverWay w x arc =
-      record {
-        kind = at .kind;
-        cost = at .cost;
-        rank = arcs-rank (linksOf ws) arc (laid-arc (h .laid) k (h .direction)) ∙ from;
-        neighbour = from;
-      } in
+      let over : OverWay w x arc = laid-over (h .laid) k (h .direction) is f in
       let held : p ≡ heldOver m r arc = g ∙ ap (λ (i : ℕ). pairOf (heldAt m r i)) (sym (laid-direction (h .laid) k (h .direction))) in
       c .chosen arc over ∙ ap (λ (q : TypeLength). choose (asOffer o) (offer arc q)) held
       ∙ ap (choose (asOffer o)) (sym (heard-own (heldOver m r) (asAt ws (hearerAt r k)) arc own))

@@ -3,6 +3,7 @@ pub mod IndexLaws
 pub mod RoomLaws
 pub mod HeldLaws
 pub mod StateLaws
+pub mod AmendLaws
 pub mod DeliverLaws
 pub mod RunLaws
 pub mod StartLaws

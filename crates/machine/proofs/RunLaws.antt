@@ -15,7 +15,8 @@ use Rattle.rules.specs.Lists.{In}
 use Rattle.rules.specs.Offers.{Arc}
 use Rattle.rules.specs.Network.{linksOf}
 use Rattle.rules.specs.Machine.{Waiting, nothing, waits, State, Run, delivered, taken, chosen, Lowest, quiet, on, lowest, lowestOr, onward, further}
-use Rattle.rules.proofs.ArcLaws.{Numbered, numbered-range, arcs-numbered, arcs-length, arcs-cost}
+use Rattle.rules.proofs.ArcLaws.{Numbered, numbered-range, arcs-numbered, arcs-length, arcs-cost, direction-unique}
+use Rattle.rules.proofs.MachineLaws.{deliver-sound}
 use Rattle.rules.proofs.MachineRuns.{lowest-quiet}
 use Rattle.rules.proofs.MachineCounts.{deliver-short}
 use Rattle.machine.specs.declared.Counts.{Counts}
@@ -114,16 +115,17 @@ module _ {ws : List ℕ} {m : ℕ} {rest : List ℕ} {s : State} {t r : List ℕ
 -- One step of every run that is held -----------------------------------------------------------------------------------------
 
 module _ {ws : List ℕ} {m d k : ℕ} {t r t′ r′ f′ : List ℕ} (g : Delivered ws m d k t r t′ r′ f′) where
-  reached-on : {rest : List ℕ} {run : Run} {c : Counts} → Reached ws m rest run c t r → c .made < 262144
+  reached-on : {rest : List ℕ} {run : Run} {c : Counts} → Reached ws m d rest run c t r → c .made < 262144
       → (p : TypeLength) → run .state .waiting k ≡ waits p
-      → Reached ws m rest (delivered (netOf ws) (asAt ws d) k p run) (record { made = c .made + 1; idle = c .idle }) t′ r′
+      → Reached ws m d rest (delivered (netOf ws) (asAt ws d) k p run) (record { made = c .made + 1; idle = c .idle }) t′ r′
   reached-on {rest} {run} {c} h few p e =
       let s = run .state in
       let b = run .made in
       let most : (a : Arc) → In a (netOf ws) → a .cost ≤ 1 = (λ a i. omega (arith, arcs-cost (linksOf ws) a i)) in
       let long : p .length ≤ b = rw e at (h .short .waiting k) in
       record {
-        holds = g .after rest s p b (h .holds) e (h .short .held) long (omega (arith, h .made));
+        holds = g .after rest s p b (h .holds) (h .sound) e (h .short .held) long (omega (arith, h .made));
+        sound = deliver-sound (netOf ws) (direction-unique (linksOf ws)) (asAt ws d) k p s (h .sound) e;
         short = rw add-one at (deliver-short (netOf ws) (asAt ws d) 1 most b k p s (h .short) e);
         made = omega (arith, h .made);
         idle = h .idle;
@@ -138,7 +140,7 @@ module _ {ws : List ℕ} {m d k : ℕ} {c : Counts} {t r f : List ℕ} (g : Choo
         counts = omega arith;
         after = λ rest run h.
             rw (idle-here (g .laid) (h .holds) k (g .direction) e)
-            (record { holds = h .holds; short = h .short; made = h .made; idle = omega (arith, h .idle) });
+            (record { holds = h .holds; sound = h .sound; short = h .short; made = h .made; idle = omega (arith, h .idle) });
       }
 
   pub chose-delivered : waitAt m r k ≢ 0 → {t′ r′ f′ : List ℕ} → Delivered ws m d k t r t′ r′ f′

@@ -15,6 +15,8 @@ use Rattle.rules.specs.Network.{linksOf, asesOf}
 use Rattle.rules.specs.Stable.{Line, own, lost, tableOf}
 use Rattle.rules.specs.Machine.{nothing, fresh, started}
 use Rattle.rules.proofs.Tests.{changed-same, changed-other}
+use Rattle.rules.proofs.ArcLaws.{direction-unique}
+use Rattle.rules.proofs.MachineLaws.{fresh-sound}
 use Rattle.rules.proofs.MachineCounts.{fresh-short}
 use Rattle.offers.specs.Lines.{putLine}
 use Rattle.offers.specs.Ways.{placesOf}
@@ -210,6 +212,7 @@ module _ {ws : List ℕ} {m : ℕ} {list : List ℕ} {n place : ℕ} {t r : List
                           sent-waiting laid-ready (omega (arith, g .destination, g .count)) (omega arith) (omega arith) (rw origin at sent) (λ i. nothing)
                           (λ k h. ap waitOf (ready .waiting k h));
                     };
+                sound = fresh-sound (netOf ws) (direction-unique (linksOf ws)) d;
                 short = fresh-short (netOf ws) d 0;
                 made = refl;
                 idle = refl;

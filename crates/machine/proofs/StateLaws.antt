@@ -27,7 +27,7 @@ use Rattle.rules.proofs.ArcLaws.{Directed, arcs-length, arcs-cost, arcs-numbere
 use Rattle.rules.proofs.MachineLaws.{send-own, send-other}
 use Rattle.rules.proofs.MachineCounts.{best-short}
 use Rattle.offers.specs.declared.Offered.{Offered}
-use Rattle.offers.specs.Lines.{numberAt, pairAt, putLine}
+use Rattle.offers.specs.Lines.{numberAt, pairAt, lineAt, putLine}
 use Rattle.offers.specs.Ways.{arcAt, wayAt}
 use Rattle.offers.specs.Passes.{asOffer}
 use Rattle.offers.specs.Steps.{Placed}
@@ -129,6 +129,12 @@ module _ {ws : List ℕ} {m : ℕ} {t r r′ : List ℕ} (l : Laid ws m t r) {u 
           ∙ sym (send-other (netOf ws) unique (asAt ws u) p w a (laid-arc l k i) off)
           ∙ ap (send (netOf ws) (asAt ws u) p w) (laid-direction l k i)
 
+-- the line of an AS as the table has it
+pub own-line : {ws : List ℕ} {m : ℕ} {rest : List ℕ} {s : State} {t r : List ℕ} → Holds ws m rest s t r → {u : ℕ} → u < asesIn ws
+    → lineAt t u ≡ s .lines (asAt ws u)
+own-line {ws} {m} {rest} {s} g {u} h =
+    ap (λ (q : List ℕ). lineAt q u) (g .lines) ∙ table-line (s .lines) rest (asesOf (linksOf ws)) u h
+
 -- An election ---------------------------------------------------------------------------------------------------------------
 
 -- the best offer is of type 1 to 4
@@ -151,74 +157,86 @@ elected-off : (net : List Arc) (d x : ℕ) (s : State) → x ≢ d → (o : Offe
 unfolding elected
 elected-off net d x s ne o e = rw (e, ne-eqb x d ne)
 
-module _ {ws : List ℕ} {m : ℕ} {t r : List ℕ} (l : Laid ws m t r) {u : ℕ} (h : u < asesIn ws) {o : Offered}
-    (b : asOffer o ≡ best (heldOver m r) (asAt ws u) (netOf ws)) where
-  most : (a : Arc) → In a (netOf ws) → a .cost ≤ 1
-  most a i = omega (arith, arcs-cost (linksOf ws) a i)
+-- what a link adds to a length
+most : (ws : List ℕ) (a : Arc) → In a (netOf ws) → a .cost ≤ 1
+most ws a i = omega (arith, arcs-cost (linksOf ws) a i)
 
-  typed : (1 ≤ o .pair .typ) × (o .pair .typ ≤ 4)
-  typed = omega (arith, ap (λ (y : Offer). y .pair .typ) b, best-typed (heldOver m r) (asAt ws u) (netOf ws))
+module _ {ws : List ℕ} {m : ℕ} {t r : List ℕ} (l : Laid ws m t r) {u : ℕ} (h : u < asesIn ws) {o : Offered} where
+  -- the line of an offer is taken, and told of or not
+  module _ {old : TypeLength} {t′ r′ f′ : List ℕ} (is : old ≡ pairAt t u) (took : Took m t r u old o t′ r′ f′) where
+    told : ToldUnless (sameAs (pairAt t u) (o .pair)) m u (pairWord (o .pair)) r r′
+    told = subst (λ (p : TypeLength). ToldUnless (sameAs p (o .pair)) m u (pairWord (o .pair)) r r′) is (took .told)
 
-  -- its word fits
-  pub word-fits : pairWord (o .pair) < 4294967296
-  word-fits =
-      let short = best-short (netOf ws) 0 1 most 268435455 (heldOver m r) (λ a. omega arith) (asAt ws u) in
-      omega (arith, typed, ap (λ (y : Offer). y .pair .length) b)
+    pub took-laid : Laid ws m t′ r′
+    took-laid = rw (took .line) (go (sameAs (pairAt t u) (o .pair)) told)
+      where
+        go : (b : Bool) → ToldUnless b m u (pairWord (o .pair)) r r′ → Laid ws m (putLine t u (lineOf (asOffer o))) r′
+        go true same = rw same (laid-line l u (lineOf (asOffer o)))
+        go false sent = laid-room (laid-line l u (lineOf (asOffer o))) r′ (sent .long) (λ i g. sent .below i (omega arith)) (sent .above)
 
-  -- in every state that table and room hold
-  module _ {rest : List ℕ} {s : State} (g : Holds ws m rest s t r) where
-    own-pair : pairAt t u ≡ s .lines (asAt ws u) .pair
-    own-pair =
-        ap (λ (q : List ℕ). pairAt q u) (g .lines)
-        ∙ ap (λ (x : Line). x .pair) (table-line (s .lines) rest (asesOf (linksOf ws)) u h)
+    -- in every state that table and room hold and in which the offer is elected
+    module _ {rest : List ℕ} {s : State} (g : Holds ws m rest s t r)
+        (b : asOffer o ≡ best (λ a. s .held (a .direction)) (asAt ws u) (netOf ws)) where
+      typed : 1 ≤ o .pair .typ
+      typed = omega (arith, ap (λ (y : Offer). y .pair .typ) b, best-typed (λ a. s .held (a .direction)) (asAt ws u) (netOf ws))
 
-    elects : asOffer o ≡ best (λ a. s .held (a .direction)) (asAt ws u) (netOf ws)
-    elects =
+      abbrev after : (ℕ → Waiting) → State
+      after w = record { lines = changed (s .lines) (asAt ws u) (lineOf (asOffer o)); held = s .held; waiting = w }
+
+      -- the line is put, and what waits is known
+      put-holds : (w : ℕ → Waiting) → ((k : ℕ) → k < 2 * m → heldAt m r′ k ≡ heldAt m r k)
+          → ((k : ℕ) → k < 2 * m → waitOf (waitAt m r′ k) ≡ w k)
+          → Holds ws m rest (after w) (putLine t u (lineOf (asOffer o))) r′
+      put-holds w same now =
+          let us = asesOf (linksOf ws) in
+          let S = changed (s .lines) (asAt ws u) (lineOf (asOffer o)) in
+          record {
+            lines =
+                ap (λ (q : List ℕ). putLine q u (lineOf (asOffer o))) (g .lines)
+                ∙ ap (putLine (tableOf (s .lines) us ++ rest) u) (sym (changed-same (s .lines) (asAt ws u) (lineOf (asOffer o)) (asAt ws u) refl))
+                ∙ table-put (s .lines) rest S us (ases-distinct (linksOf ws)) u h (λ v ne. changed-other (s .lines) (asAt ws u) (lineOf (asOffer o)) v ne);
+            held = λ k i. ap pairOf (same k i) ∙ g .held k i;
+            waiting = now;
+          }
+
+      pub took-holds : (d c : ℕ) → ((k : ℕ) → s .held k .length ≤ c) → c + 1 < 268435456 → asAt ws u ≢ d
+          → Holds ws m rest (elected (netOf ws) d (asAt ws u) s) t′ r′
+      took-holds d c short fits ne =
+          rw (took .line, elected-off (netOf ws) d (asAt ws u) s ne (asOffer o) b, ← own-pair) (go (sameAs (pairAt t u) (o .pair)) told)
+        where
+          own-pair : pairAt t u ≡ s .lines (asAt ws u) .pair
+          own-pair = ap (λ (x : Line). x .pair) (own-line g h)
+
+          narrow : o .pair .length < 268435456
+          narrow =
+              let few = best-short (netOf ws) d 1 (most ws) c (λ a. s .held (a .direction)) (λ a. short (a .direction)) (asAt ws u) in
+              omega (arith, ap (λ (y : Offer). y .pair .length) b)
+
+          go : (x : Bool) → ToldUnless x m u (pairWord (o .pair)) r r′
+              → Holds ws m rest (after (cond x (s .waiting) (send (netOf ws) (asAt ws u) (o .pair) (s .waiting)))) (putLine t u (lineOf (asOffer o))) r′
+          go true same = put-holds (s .waiting) (λ k i. rw same refl) (λ k i. rw same (g .waiting k i))
+          go false sent =
+              put-holds _ (λ k i. sent .below (2 * m + k) (omega arith))
+              (sent-waiting l h typed narrow sent (s .waiting) (g .waiting))
+
+  -- the offer is the best over what the room holds
+  module _ (b : asOffer o ≡ best (heldOver m r) (asAt ws u) (netOf ws)) where
+    -- its word fits
+    pub word-fits : pairWord (o .pair) < 4294967296
+    word-fits =
+        let short = best-short (netOf ws) 0 1 (most ws) 268435455 (heldOver m r) (λ a. omega arith) (asAt ws u) in
+        let typed = best-typed (heldOver m r) (asAt ws u) (netOf ws) in
+        omega (arith, ap (λ (y : Offer). y .pair .typ) b, ap (λ (y : Offer). y .pair .length) b)
+
+    elects : {rest : List ℕ} {s : State} → Holds ws m rest s t r → asOffer o ≡ best (λ a. s .held (a .direction)) (asAt ws u) (netOf ws)
+    elects {rest} {s} g =
         b ∙ best-same (heldOver m r) (λ a. s .held (a .direction)) (asAt ws u) (netOf ws)
         (λ a i e. g .held (a .direction) (omega (arith, numbered-range 0 (netOf ws) (arcs-numbered 0 (linksOf ws)) a i, arcs-length 0 (linksOf ws), l .links)))
 
-    -- the line is put, and what waits is known
-    put-holds : (r′ : List ℕ) (w : ℕ → Waiting) → ((k : ℕ) → k < 2 * m → heldAt m r′ k ≡ heldAt m r k)
-        → ((k : ℕ) → k < 2 * m → waitOf (waitAt m r′ k) ≡ w k)
-        → Holds ws m rest (record { lines = changed (s .lines) (asAt ws u) (lineOf (asOffer o)); held = s .held; waiting = w }) (putLine t u (lineOf (asOffer o))) r′
-    put-holds r′ w same now =
-        let us = asesOf (linksOf ws) in
-        let S = changed (s .lines) (asAt ws u) (lineOf (asOffer o)) in
+    pub elected-anew : {old : TypeLength} {t′ r′ f′ : List ℕ} → old ≡ pairAt t u → Took m t r u old o t′ r′ f′ → Anew ws m t r u t′ r′ f′
+    elected-anew is took =
         record {
-          lines =
-              ap (λ (q : List ℕ). putLine q u (lineOf (asOffer o))) (g .lines)
-              ∙ ap (putLine (tableOf (s .lines) us ++ rest) u) (sym (changed-same (s .lines) (asAt ws u) (lineOf (asOffer o)) (asAt ws u) refl))
-              ∙ table-put (s .lines) rest S us (ases-distinct (linksOf ws)) u h (λ v ne. changed-other (s .lines) (asAt ws u) (lineOf (asOffer o)) v ne);
-          held = λ k i. ap pairOf (same k i) ∙ g .held k i;
-          waiting = now;
+          laid = took-laid is took;
+          flagged = took .flagged;
+          after = λ rest s d c g short fits ne. took-holds is took g (elects g) d c short fits ne;
         }
-
-  -- the line is taken, and told of or not
-  pub elected-anew : {old : TypeLength} {t′ r′ f′ : List ℕ} → old ≡ pairAt t u → Took m t r u old o t′ r′ f′ → Anew ws m t r u t′ r′ f′
-  elected-anew {old} {t′} {r′} {f′} is took =
-      rw (took .line) (go (sameAs (pairAt t u) (o .pair)) refl (subst (λ (p : TypeLength). Told p) is (took .told)))
-    where
-      Told : TypeLength → Type 0
-      Told p = ToldUnless (sameAs p (o .pair)) m u (pairWord (o .pair)) r r′
-
-      go : (b : Bool) → sameAs (pairAt t u) (o .pair) ≡ b → ToldUnless b m u (pairWord (o .pair)) r r′
-          → Anew ws m t r u (putLine t u (lineOf (asOffer o))) r′ f′
-      go true e same =
-          record {
-            laid = rw same (laid-line l u (lineOf (asOffer o)));
-            flagged = took .flagged;
-            after = λ rest s d c g short fits ne.
-                rw (elected-off (netOf ws) d (asAt ws u) s ne (asOffer o) (elects g), ← own-pair g, e, same)
-                (put-holds g r (s .waiting) (λ k i. refl) (g .waiting));
-          }
-      go false e sent =
-          record {
-            laid = laid-room (laid-line l u (lineOf (asOffer o))) r′ (sent .long) (λ i g. sent .below i (omega arith)) (sent .above);
-            flagged = took .flagged;
-            after = λ rest s d c g short fits ne.
-                let few = best-short (netOf ws) d 1 most c (λ a. s .held (a .direction)) (λ a. short (a .direction)) (asAt ws u) in
-                let narrow : o .pair .length < 268435456 = omega (arith, ap (λ (y : Offer). y .pair .length) (elects g)) in
-                rw (elected-off (netOf ws) d (asAt ws u) s ne (asOffer o) (elects g), ← own-pair g, e)
-                (put-holds g r′ _ (λ k i. sent .below (2 * m + k) (omega arith))
-                (sent-waiting l h (typed .0) narrow sent (s .waiting) (g .waiting)));
-          }

@@ -74,4 +74,4 @@ pub record Driving (ws : List ℕ) (m : ℕ) (list : List ℕ) (most place : ℕ
 pub record Driven (ws : List ℕ) (m place : ℕ) (cs : List ℕ) (n : ℕ) (t : List ℕ) (c : Counts) (t′ r′ f′ : List ℕ) : Type 0 where
   pub laid : Laid ws m t′ r′
   pub flagged : Flagged m r′ f′
-  pub reached : Reached ws m (drop (4 * asesIn ws) t) (runOn ws (asAt ws place) cs n) c t′ r′
+  pub reached : Reached ws m place (drop (4 * asesIn ws) t) (runOn ws (asAt ws place) cs n) c t′ r′

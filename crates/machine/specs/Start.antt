@@ -54,4 +54,4 @@ pub record Starting (ws : List ℕ) (m : ℕ) (list : List ℕ) (n place : ℕ) 
 pub record Started (ws : List ℕ) (m place : ℕ) (t t′ r′ f′ : List ℕ) : Type 0 where
   pub laid : Laid ws m t′ r′
   pub flagged : Flagged m r′ f′
-  pub reached : Reached ws m (drop (4 * asesIn ws) t) (started (netOf ws) (asAt ws place)) noCounts t′ r′
+  pub reached : Reached ws m place (drop (4 * asesIn ws) t) (started (netOf ws) (asAt ws place)) noCounts t′ r′

@@ -12,6 +12,8 @@
 --   Electing               it may elect over all directions, from the offer o on
 --   Taking, Took           the AS at place u takes the line of the offer o, and tells of it unless its pair was the same
 --   Anew ws m t r u t′ r′ f′  the AS at place u has elected anew, and told of a change
+--   offeredOver m t r k w   what is offered over direction k, which is w, with the pair that the room holds there
+--   Amending, Amended      direction k holds another pair than when its hearer's line was elected; and the line is the one elected anew
 --   Delivered ws m d k t r t′ r′ f′   what waited on direction k was delivered, where the AS at place d is the destination
 use Prim.Native.Nat.{ℕ, _+_, _*_, _≤_, _<_}
 use mathlib.Core.Path.{_≡_}
@@ -20,16 +22,18 @@ use mathlib.Core.Bool.{Bool, true, false}
 use mathlib.Core.List.{List}
 use lib.ListN.{length, getD}
 use Rattle.rules.specs.declared.TypeLength.{TypeLength}
-use Rattle.rules.specs.Pairs.{sameAs}
+use Rattle.rules.specs.Pairs.{extension, sameAs}
 use Rattle.rules.specs.Offers.{Arc, choose, heard}
 use Rattle.rules.specs.Network.{linksOf}
 use Rattle.rules.specs.Stable.{lineOf}
 use Rattle.rules.specs.Machine.{State, waits, elected, deliver}
+use Rattle.rules.proofs.MachineLaws.{lineOver, Sound}
 use Rattle.offers.specs.declared.Offered.{Offered}
-use Rattle.offers.specs.Lines.{putLine}
-use Rattle.offers.specs.Ways.{partner, arcAt}
+use Rattle.offers.specs.declared.Way.{Way}
+use Rattle.offers.specs.Lines.{numberAt, putLine}
+use Rattle.offers.specs.Ways.{partner, arcAt, wayAt}
 use Rattle.offers.specs.Passes.{asOffer}
-use Rattle.offers.specs.Steps.{Fair}
+use Rattle.offers.specs.Steps.{offerOf, Fair}
 use Rattle.machine.specs.Room.{pairWord, pairOf, placeAt, heldAt, waitAt, netOf, asesIn, asAt, Flagged, Indexed, Laid, Holds}
 
 pub record FirstWaiting (m : ℕ) (r : List ℕ) (k : ℕ) : Type 0 where
@@ -104,6 +108,24 @@ pub record Anew (ws : List ℕ) (m : ℕ) (t r : List ℕ) (u : ℕ) (t′ r′ 
   pub after : (rest : List ℕ) (s : State) (d b : ℕ) → Holds ws m rest s t r → ((k : ℕ) → s .held k .length ≤ b) → b + 1 < 268435456
       → asAt ws u ≢ d → Holds ws m rest (elected (netOf ws) d (asAt ws u) s) t′ r′
 
+abbrev pub offeredOver : ℕ → List ℕ → List ℕ → ℕ → Way → Offered
+offeredOver m t r k w = offerOf (extension (w .kind) (w .cost) (pairOf (heldAt m r k))) (numberAt t (w .neighbour))
+
+pub record Amending (ws : List ℕ) (m k : ℕ) (w : Way) (t r f : List ℕ) : Type 0 where
+  pub laid : Laid ws m t r
+  pub flagged : Flagged m r f
+  pub direction : k < 2 * m
+  pub way : w ≡ wayAt (linksOf ws) r k
+
+-- h: the pairs over which the line was elected
+pub record Amended (ws : List ℕ) (m k : ℕ) (t r : List ℕ) (u : ℕ) (t′ r′ f′ : List ℕ) : Type 0 where
+  pub laid : Laid ws m t′ r′
+  pub flagged : Flagged m r′ f′
+  pub after : (rest : List ℕ) (s : State) (h : ℕ → TypeLength) (d b : ℕ) → Holds ws m rest s t r
+      → s .lines (asAt ws u) ≡ lineOver (netOf ws) h (asAt ws u) → ((j : ℕ) → j ≢ k → s .held j ≡ h j)
+      → ((j : ℕ) → s .held j .length ≤ b) → b + 1 < 268435456 → asAt ws u ≢ d
+      → Holds ws m rest (elected (netOf ws) d (asAt ws u) s) t′ r′
+
 pub record Delivering (ws : List ℕ) (m d k : ℕ) (t r f : List ℕ) : Type 0 where
   pub laid : Laid ws m t r
   pub flagged : Flagged m r f
@@ -113,6 +135,6 @@ pub record Delivering (ws : List ℕ) (m d k : ℕ) (t r f : List ℕ) : Type 0 
 pub record Delivered (ws : List ℕ) (m d k : ℕ) (t r t′ r′ f′ : List ℕ) : Type 0 where
   pub laid : Laid ws m t′ r′
   pub flagged : Flagged m r′ f′
-  pub after : (rest : List ℕ) (s : State) (p : TypeLength) (b : ℕ) → Holds ws m rest s t r → s .waiting k ≡ waits p
+  pub after : (rest : List ℕ) (s : State) (p : TypeLength) (b : ℕ) → Holds ws m rest s t r → Sound (netOf ws) (asAt ws d) s → s .waiting k ≡ waits p
       → ((j : ℕ) → s .held j .length ≤ b) → p .length ≤ b → b + 1 < 268435456
       → Holds ws m rest (deliver (netOf ws) (asAt ws d) k p s) t′ r′

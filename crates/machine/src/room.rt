@@ -2,10 +2,10 @@
 ghost use Prim.Native.Nat.{_+_, _*_, _/_, _≤_, _<_};
 ghost use mathlib.Core.Path.{_≡_};
 ghost use lib.ListN.{length, set};
-ghost use Rattle.offers.specs.Ways.{partner};
 ghost use Rattle.machine.specs.Room.{pairWord, pairOf, placeAt, heldAt, waitAt, nextAt, headAt, hearerAt, Flagged};
 ghost use Rattle.machine.specs.Steps.{Sending, Sent};
 use super::blocks;
+use offers::partner;
 use rules::TypeLength;
 
 // A pair is one word, its type in units and its length below.
@@ -70,14 +70,6 @@ pub fn put_waiting(room: &mut [u32], m: usize, k: usize, word: u32)
     ensures { λ _. ⌜ now (room .exit) ≡ set (now (room .entry)) (4 * m + k) word ⌝ }
 {
     room[4 * m + k] = word;
-}
-
-// The other direction of the same link.
-pub fn partner(k: usize) -> usize
-    requires { ⌜ k < 18446744073709551615 ⌝ }
-    ensures { λ r. ⌜ r ≡ partner k ⌝ }
-{
-    if k % 2 == 0 { k + 1 } else { k - 1 }
 }
 
 // Where who hears over direction k stands.

@@ -1,12 +1,15 @@
-// A delivery, step by step: the waiting pair moves to held, the receiver elects anew, and tells of a change.
-ghost use Prim.Native.Nat.{_<_};
+// A delivery, step by step: the waiting pair moves to held, the receiver's line becomes the one that it elects anew, and it tells of a change.
+ghost use Prim.Native.Nat.{_+_, _*_, _≤_, _<_};
 ghost use mathlib.Core.Path.{_≡_};
+ghost use lib.ListN.{length};
 ghost use Rattle.rules.specs.Offers.{elect};
 ghost use Rattle.offers.specs.Passes.{asOffer};
+ghost use Rattle.offers.specs.Electing.{offerAt};
 ghost use Rattle.machine.specs.Room.{hearerAt, netOf, asesIn, asAt, Flagged, Laid};
-ghost use Rattle.machine.specs.Steps.{heldOver, Hearing, Heard, Electing, Taking, Took, Anew, Delivering, Delivered};
+ghost use Rattle.machine.specs.Steps.{heldOver, Hearing, Heard, Electing, Taking, Took, Anew, offeredOver, Amending, Amended, Delivering, Delivered};
 use super::room;
 use offers::Offered;
+use offers::Way;
 use rules::TypeLength;
 
 // The better of an offer and what is heard over direction k.
@@ -82,6 +85,49 @@ fn elect_anew(
     take_line(m, table, room, flags, u, old, best);
 }
 
+// The offer that the line of the AS at place u stands for.
+fn standing_at(table: &[u32], u: usize) -> Offered
+    requires { ⌜ 4 * u + 4 ≤ length (now table) ⌝ }
+    ensures { λ r. ⌜ r ≡ offerAt (now (table .entry)) u ⌝ }
+{
+    offers::offer_of(offers::pair_at(table, u), offers::next_at(table, u))
+}
+
+// What is offered over direction k, which is a way, with the pair held there.
+fn offered_over(m: usize, table: &[u32], room: &[u32], k: usize, way: Way) -> Offered
+    requires { ⌜ (2 * m + k < length (now room)) × (4 * way .neighbour + 4 ≤ length (now table)) × (way .cost ≤ 1) ⌝ }
+    ensures { λ r. ⌜ r ≡ offeredOver m (now (table .entry)) (now (room .entry)) k way ⌝ }
+{
+    let from = offers::number_at(table, way.neighbour);
+    let told = room::unpack_pair(room::held_at(room, m, k));
+    offers::offer_of(told.extended(way.kind, way.cost), from)
+}
+
+// The pair held on direction k, which is a way, has changed since its hearer elected its line. A better offer becomes the line; where
+// the line rests on the same neighbour the hearer elects anew; else the line stays, and nothing is sent.
+fn amend(
+    words: &[u32],
+    m: usize,
+    table: &mut [u32],
+    room: &mut [u32],
+    flags: &mut [u32; 64],
+    k: usize,
+    way: Way,
+)
+    requires { ⌜ Amending (now words) m k way (now table) (now room) (now flags) ⌝ }
+    ensures { λ _. ⌜ Amended (now (words .entry)) m k (now (table .entry)) (now (room .entry)) (way .hearer) (now (table .exit)) (now (room .exit)) (now (flags .exit)) ⌝ }
+{
+    let standing = standing_at(table, way.hearer);
+    let new = offered_over(m, table, room, k, way);
+    if new.wins(standing) {
+        take_line(m, table, room, flags, way.hearer, standing.pair, new);
+        return;
+    }
+    if standing.next == new.next {
+        elect_anew(words, m, table, room, flags, way.hearer);
+    }
+}
+
 // The pair that waits on direction k is delivered. The destination, which stands at a place of its own, never changes.
 pub fn deliver(
     words: &[u32],
@@ -102,5 +148,5 @@ pub fn deliver(
     if way.hearer == destination {
         return;
     }
-    elect_anew(words, m, table, room, flags, way.hearer);
+    amend(words, m, table, room, flags, k, way);
 }

@@ -6,6 +6,8 @@ pub mod PrefixLaws
 pub mod ListedLaws
 pub mod SlotLaws
 pub mod MetLaws
+pub mod GatherLaws
+pub mod OrderLaws
 pub mod AsTableLaws
 pub mod PairTableLaws
 pub mod StepLaws

@@ -1,23 +1,19 @@
 -- A memory of ASes that were met: what its slots hold stays in a list that grows, and so does an AS that is put into a slot and into the
 -- list. A slot holds what was put there last or what it held before.
-use Prim.Native.Nat.{ℕ, zero, suc, _<_}
+use Prim.Native.Nat.{ℕ, zero, suc}
 use mathlib.Core.Path.{_≡_, refl, sym, _∙_, subst}
 use mathlib.Core.Logic.{_⊎_, inl, inr, ⊎-elim}
 use mathlib.Core.List.{List, [], _∷_}
-use native.Mathlib.Omega.{arith}
 use lib.ListN.{set, replicate}
 use Rattle.rules.specs.Lists.{In}
 use Rattle.rules.specs.Network.{insert}
 use Rattle.rules.proofs.Ascending.{insert-in, insert-keeps}
 use Rattle.network.specs.Slots.{slot}
-use Rattle.network.specs.Sorting.{Met}
+use Rattle.network.specs.Gathering.{Met}
 use Rattle.network.proofs.SlotLaws.{slot-none}
 
 pub met-none : (n : ℕ) (known : List ℕ) → Met (replicate n 0) known
 met-none n known = record { only = λ s ns. absurd (ns (slot-none n s)) }
-
-pub met-in : {t known : List ℕ} → Met t known → (s x : ℕ) → 0 < x → slot t s ≡ x → In x known
-met-in {t} {known} m s x pos e = subst (λ (y : ℕ). In y known) e (m .only s (λ z. omega arith))
 
 new-or-old : (t : List ℕ) (r v s : ℕ) → (slot (set t r v) s ≡ v) ⊎ (slot (set t r v) s ≡ slot t s)
 new-or-old [] r v s = inr refl

@@ -1,13 +1,16 @@
--- A list of link words at a place: one link on, and at the end. Each follows from what `linksOf` does with three words.
-use Prim.Native.Nat.{ℕ, suc, _+_, _*_, _≤_, _<_}
-use mathlib.Core.Path.{_≡_, refl, ap, _∙_}
+-- A list of link words at a place: one link on, and at the end. Each follows from what `linksOf` does with three words. So do the ASes
+-- of the links before a place, which grow to all of them.
+use Prim.Native.Nat.{ℕ, zero, suc, _+_, _*_, _≤_, _<_}
+use mathlib.Core.Path.{_≡_, refl, sym, ap, _∙_}
 use mathlib.Core.List.{List, [], _∷_}
+use native.Mathlib.Numerals.{add-one}
 use native.Mathlib.Omega.{arith}
 use lib.ListN.{length, getD, drop, length-drop}
 use lib.Seq.{drop-cons}
-use Rattle.rules.specs.Network.{linksOf, linkAt}
+use Rattle.rules.specs.Network.{linksOf, linkAt, asesFrom, asesOf}
 use Rattle.network.specs.Promises.{countOf, HasLink}
-use Rattle.network.specs.Prefix.{linksFrom}
+use Rattle.network.specs.Prefix.{linksFrom, asesAt}
+use Rattle.rules.proofs.NetworkLaws.{asesFrom-length}
 
 three : (a b c : ℕ) (ws : List ℕ) → linksOf (a ∷ b ∷ c ∷ ws) ≡ record { a = a; b = b; relation = c } ∷ linksOf ws
 unfolding linksOf
@@ -40,3 +43,19 @@ links-next ws i h =
 
 pub links-end : (ws : List ℕ) (i : ℕ) → countOf ws ≤ i → linksFrom ws i ≡ []
 links-end ws i h = few (drop (3 * i) ws) (simp length-drop (omega arith))
+
+-- ASes
+ases-left : (ws : List ℕ) (i : ℕ) → i ≤ countOf ws → asesFrom (asesAt ws i) (linksFrom ws i) ≡ asesOf (linksOf ws)
+unfolding asesFrom
+ases-left ws zero h = refl
+ases-left ws (suc i) h =
+    ap (λ (j : ℕ). asesFrom (asesAt ws (suc i)) (linksFrom ws j)) (sym (add-one i))
+    ∙ sym (ap (asesFrom (asesAt ws i)) (links-next ws i (omega arith)))
+    ∙ ases-left ws i (omega arith)
+
+pub ases-few : (ws : List ℕ) (i : ℕ) → i ≤ countOf ws → length (asesAt ws i) ≤ length (asesOf (linksOf ws))
+ases-few ws i h = omega (arith, ap length (ases-left ws i h), asesFrom-length (asesAt ws i) (linksFrom ws i))
+
+pub ases-all : (ws : List ℕ) (i : ℕ) → i ≤ countOf ws → countOf ws ≤ i → asesAt ws i ≡ asesOf (linksOf ws)
+unfolding asesFrom
+ases-all ws i h g = sym (ap (asesFrom (asesAt ws i)) (links-end ws i g)) ∙ ases-left ws i h

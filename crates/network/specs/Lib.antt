@@ -3,3 +3,4 @@ pub mod Prefix
 pub mod Slots
 pub mod Tables
 pub mod Sorting
+pub mod Gathering

@@ -1,6 +1,7 @@
 -- What the public functions ask and say, beside the definitions of the crate rules.
 --
 --   perLink            words per link; countOf ws   how many whole links ws has; HasLink ws i   link i is one of them
+--   withLink ws i l    the words ws with the link l at place i
 --   Fresh limits seats pairs   two tables of zeros, long enough to check links within the limits
 --   Listed out l u r   u is l with the list out in its first words, which are r
 --   Stands l n x p     what p says of x among the first n words of l
@@ -8,8 +9,9 @@ use Prim.Native.Nat.{ℕ, _+_, _*_, _/_, _≤_, _<_}
 use mathlib.Core.Path.{_≡_}
 use mathlib.Core.Logic.{_≢_}
 use mathlib.Core.List.{List, [], _∷_, _++_}
-use lib.ListN.{length, getD, drop, replicate}
+use lib.ListN.{length, getD, set, drop, replicate}
 use Rattle.rules.specs.declared.Limits.{Limits}
+use Rattle.rules.specs.declared.Link.{Link}
 use Rattle.network.specs.declared.Place.{Place}
 use Rattle.network.specs.declared.Place.the-variants.{At, Nowhere}
 
@@ -22,6 +24,9 @@ countOf ws = length ws / perLink
 
 abbrev pub HasLink : List ℕ → ℕ → Type 0
 HasLink ws i = perLink * i + perLink ≤ length ws
+
+abbrev pub withLink : List ℕ → ℕ → Link → List ℕ
+withLink ws i l = set (set (set ws (3 * i) (l .a)) (3 * i + 1) (l .b)) (3 * i + 2) (l .relation)
 
 -- a slot for each AS and one more, and a slot for each link, beyond at least one home in each table
 pub record Fresh (limits : Limits) (seats pairs : List ℕ) : Type 0 where

@@ -5,13 +5,16 @@ ghost use lib.ListN.{length, take, replicate};
 ghost use Rattle.rules.specs.Network.{linksOf, linkAt, asesOf};
 ghost use Rattle.rules.specs.Checks.{baseLimits, checkWords, roomNeed};
 ghost use Rattle.rules.specs.Ascending.{Ascending};
-ghost use Rattle.network.specs.Promises.{HasLink, Fresh, Stands, Listed};
+ghost use Rattle.network.specs.Promises.{HasLink, withLink, Fresh, Stands, Listed};
 ghost use Rattle.network.specs.Tables.{asHome};
 use rules::Checked;
 use rules::Limits;
 use rules::Link;
 use rules::Refusal;
 
+mod gather;
+mod order;
+mod quick;
 mod slots;
 mod sorted;
 mod steps;
@@ -30,6 +33,17 @@ pub fn link_at(words: &[u32], i: usize) -> Link
         b: words[at + 1],
         relation: words[at + 2],
     }
+}
+
+// Link i gets into the words.
+pub fn put_link(words: &mut [u32], i: usize, l: Link)
+    requires { ⌜ HasLink (now words) i ⌝ }
+    ensures { λ _. ⌜ now (words .exit) ≡ withLink (now (words .entry)) i l ⌝ }
+{
+    let at = WORDS_PER_LINK * i;
+    words[at] = l.a;
+    words[at + 1] = l.b;
+    words[at + 2] = l.relation;
 }
 
 // The check of a list of link words within given limits. The two tables are the caller's scratch memory, zero at entry: what stands
@@ -52,20 +66,20 @@ pub fn check_with(words: &[u32], limits: Limits, seats: &mut [u32], pairs: &mut 
     Checked::Refused(Refusal::OverLimit)
 }
 
-// The check of a list of link words: refusals 1 to 6, or the number of ASes. The tables have 2,048 and 4,096 homes.
+// The check of a list of link words: refusals 1 to 6, or the number of ASes. The tables have 1,024 and 3,072 homes.
 pub fn check_links(words: &[u32]) -> Checked
     ensures { λ r. ⌜ r ≡ checkWords baseLimits (now (words .entry)) ⌝ }
 {
-    let mut seats = [0u32; 2561];
-    let mut pairs = [0u32; 5632];
+    let mut seats = [0u32; 1537];
+    let mut pairs = [0u32; 4608];
     check_with(words, Limits::BASE, &mut seats, &mut pairs)
 }
 
-// The slot of an AS among 4,096.
+// The slot of an AS among 2,048.
 pub fn slot_of(x: u32) -> usize
-    ensures { λ r. ⌜ (r ≡ asHome 4096 x) × (r < 4096) ⌝ }
+    ensures { λ r. ⌜ (r ≡ asHome 2048 x) × (r < 2048) ⌝ }
 {
-    slots::as_home(x, 4096)
+    slots::as_home(x, 2048)
 }
 
 // The ASes of the links, ascending, in the first words of a lent list, and how many they are. The other words stay.
@@ -73,16 +87,11 @@ pub fn list_ases(words: &[u32], list: &mut [u32]) -> usize
     requires { ⌜ length (asesOf (linksOf (now words))) ≤ length (now list) ⌝ }
     ensures { λ r. ⌜ Listed (asesOf (linksOf (now (words .entry)))) (now (list .entry)) (now (list .exit)) r ⌝ }
 {
-    let m = words.len() / WORDS_PER_LINK;
-    let mut met = [0u32; 4096];
-    let mut i = 0;
-    let mut n = 0;
-    while i < m {
-        let l = link_at(words, i);
-        n = sorted::meet_ends(list, &mut met, n, l);
-        i += 1;
+    let n = quick::list_quickly(words, list);
+    if n <= gather::ASES {
+        return n;
     }
-    n
+    sorted::list_plainly(words, list)
 }
 
 // Where an AS stands in an ascending list.

@@ -42,7 +42,7 @@ fn pair_home(l: Link, homes: usize) -> usize
 }
 
 // Whether the search for x ends at slot s.
-fn as_stops(seats: &[u32], s: usize, x: u32) -> bool
+pub fn as_stops(seats: &[u32], s: usize, x: u32) -> bool
     requires { ⌜ s < length (now seats) ⌝ }
     ensures { λ r. ⌜ r ≡ stopsAt (isAs x) (now (seats .entry)) s ⌝ }
 {

@@ -1,20 +1,13 @@
 // Where the ends of the links stand among the ascending ASes.
 ghost use Prim.Native.Nat.{_≤_, _<_};
 ghost use mathlib.Core.Path.{_≡_};
+ghost use mathlib.Core.Bool.{true};
 ghost use lib.ListN.{length, take, getD};
 ghost use Rattle.rules.specs.Network.{linksOf, linkAt, asesOf};
-ghost use Rattle.offers.specs.Ways.{placeIn, partner};
+ghost use Rattle.offers.specs.Ways.{placeIn};
 ghost use Rattle.offers.specs.Placing.{kindOver, Among, Placing, putEnds};
 use network::Place;
 use rules::Link;
-
-// The other direction of the same link.
-pub fn partner(k: usize) -> usize
-    requires { ⌜ k < 18446744073709551615 ⌝ }
-    ensures { λ r. ⌜ r ≡ partner k ⌝ }
-{
-    if k % 2 == 0 { k + 1 } else { k - 1 }
-}
 
 // The kind of direction k, which is the link's, seen from its hearer.
 pub fn kind_over(link: Link, k: usize) -> u32
@@ -46,35 +39,73 @@ pub fn search_in(list: &[u32], n: usize, x: u32) -> u32
     i as u32
 }
 
-// Puts the place of each of the first n words into its slot. Of ASes that share a slot the last stays: a hint may be wrong.
-pub fn put_hints(list: &[u32], n: usize, hints: &mut [u32; 4096])
+// The first free slot from one on, or the last.
+fn free_slot(hints: &[u32; 2048], home: usize) -> usize
+    requires { ⌜ home < 2048 ⌝ }
+    ensures { λ r. ⌜ r < 2048 ⌝ }
+{
+    let mut s = home;
+    while s < 2047 {
+        if hints[s] == 0 {
+            return s;
+        }
+        s += 1;
+    }
+    s
+}
+
+// Puts the place of each of the first n words, one higher, into a slot that is free, 0, from its own slot on. Nothing is said of the
+// hints: one may be missing or wrong.
+pub fn put_hints(list: &[u32], n: usize, hints: &mut [u32; 2048])
     requires { ⌜ (n ≤ length (now list)) × (n < 4294967296) ⌝ }
 {
     let mut i = 0;
     while i < n {
-        let s = network::slot_of(list[i]);
-        hints[s] = i as u32;
+        let s = free_slot(hints, network::slot_of(list[i]));
+        hints[s] = (i + 1) as u32;
         i += 1;
     }
 }
 
-// What the slot of x holds.
-pub fn hint_at(hints: &[u32; 4096], x: u32) -> u32 {
-    let s = network::slot_of(x);
-    hints[s]
+// Whether x stands at a place among the first n words.
+fn stands_at(list: &[u32], n: usize, place: u32, x: u32) -> bool
+    requires { ⌜ n ≤ length (now list) ⌝ }
+    ensures { λ r. ⌜ (r ≡ true → (place < n) × (getD (now (list .entry)) place 0 ≡ x)) ⌝ }
+{
+    let at = place as usize;
+    if at < n {
+        return list[at] == x;
+    }
+    false
 }
 
-// Where the AS x stands, which is among the first n words: where the hint says, if it is right.
-pub fn place_in(list: &[u32], n: usize, hints: &[u32; 4096], x: u32) -> u32
+// Where the hints from a slot on say that x stands, or 0.
+fn hinted(list: &[u32], n: usize, hints: &[u32; 2048], x: u32, home: usize) -> u32
+    requires { ⌜ n ≤ length (now list) ⌝ }
+{
+    let mut s = home;
+    while s < 2048 {
+        let mark = hints[s];
+        if mark == 0 {
+            return 0;
+        }
+        let place = mark - 1;
+        if stands_at(list, n, place, x) {
+            return place;
+        }
+        s += 1;
+    }
+    0
+}
+
+// Where the AS x stands, which is among the first n words: where the hints say, if it is right.
+pub fn place_in(list: &[u32], n: usize, hints: &[u32; 2048], x: u32) -> u32
     requires { ⌜ Among (now list) n x ⌝ }
     ensures { λ r. ⌜ r ≡ placeIn (take n (now (list .entry))) x ⌝ }
 {
-    let hint = hint_at(hints, x);
-    let at = hint as usize;
-    if at < n {
-        if list[at] == x {
-            return hint;
-        }
+    let hint = hinted(list, n, hints, x, network::slot_of(x));
+    if stands_at(list, n, hint, x) {
+        return hint;
     }
     search_in(list, n, x)
 }
@@ -84,7 +115,7 @@ pub fn place_link(
     words: &[u32],
     list: &[u32],
     n: usize,
-    hints: &[u32; 4096],
+    hints: &[u32; 2048],
     places: &mut [u32],
     i: usize,
 )

@@ -6,7 +6,7 @@ ghost use Rattle.rules.specs.Offers.{better};
 ghost use Rattle.rules.specs.Network.{linksOf};
 ghost use Rattle.network.specs.Promises.{HasLink};
 ghost use Rattle.offers.specs.Lines.{numberAt, pairAt, nextAt, putLine};
-ghost use Rattle.offers.specs.Ways.{wayAt};
+ghost use Rattle.offers.specs.Ways.{partner, wayAt};
 ghost use Rattle.offers.specs.Placing.{Placing, withPlaces};
 ghost use Rattle.offers.specs.Passes.{asOffer};
 ghost use Rattle.offers.specs.Electing.{Electing, withOffers};
@@ -16,6 +16,7 @@ use rules::TypeLength;
 
 mod ends;
 mod pass;
+pub mod scratch;
 
 // A direction with its ends as places among the ascending ASes, its kind seen from the hearer, and its cost.
 pub struct Way {
@@ -93,7 +94,7 @@ pub fn place_ends(words: &[u32], list: &[u32], n: usize, places: &mut [u32])
     requires { ⌜ Placing (now words) (now list) n (now places) ⌝ }
     ensures { λ _. ⌜ now (places .exit) ≡ withPlaces (linksOf (now (words .entry))) (now (places .entry)) ⌝ }
 {
-    let mut hints = [0u32; 4096];
+    let mut hints = [0u32; 2048];
     ends::put_hints(list, n, &mut hints);
     let m = words.len() / WORDS_PER_LINK;
     let mut i = 0;
@@ -103,6 +104,14 @@ pub fn place_ends(words: &[u32], list: &[u32], n: usize, places: &mut [u32])
     }
 }
 
+// The other direction of the same link.
+pub fn partner(k: usize) -> usize
+    requires { ⌜ k < 18446744073709551615 ⌝ }
+    ensures { λ r. ⌜ r ≡ partner k ⌝ }
+{
+    if k % 2 == 0 { k + 1 } else { k - 1 }
+}
+
 // Direction k: 2i from a to b of link i, 2i + 1 from b to a.
 pub fn way_at(words: &[u32], places: &[u32], k: usize) -> Way
     requires { ⌜ HasLink (now words) (k / 2) × (2 * (k / 2) + 2 ≤ length (now places)) ⌝ }
@@ -110,7 +119,7 @@ pub fn way_at(words: &[u32], places: &[u32], k: usize) -> Way
 {
     let link = network::link_at(words, k / 2);
     Way {
-        hearer: ends::place_at(places, ends::partner(k)),
+        hearer: ends::place_at(places, partner(k)),
         neighbour: ends::place_at(places, k),
         kind: ends::kind_over(link, k),
         cost: 1,

@@ -90,7 +90,7 @@ stable-words-once ls d s t a b =
     let same = stable-unique (arcsOf ls) (arcs-positive ls) d (a .routing) (b .routing) (a .stable) (b .stable) in
     a .words ∙ ap (λ (R : Routing). tableOf R (asesOf ls)) same ∙ sym (b .words)
 
-after-once : (v : Verdict) (ls : List Link) (d : ℕ) (old s t : List ℕ) → TableAfter v ls d old s → TableAfter v ls d old t → s ≡ t
+pub after-once : (v : Verdict) (ls : List Link) (d : ℕ) (old s t : List ℕ) → TableAfter v ls d old s → TableAfter v ls d old t → s ≡ t
 after-once Passes ls d old s t a b =
     let same = stable-words-once ls d (a .table) (b .table) (a .stable) (b .stable) in
     a .words ∙ ap (λ (w : List ℕ). w ++ drop (length w) old) same ∙ sym (b .words)

@@ -5,7 +5,7 @@ use native.Mathlib.Omega.{arith}
 use mathlib.Core.Bool.{Bool, true, false, cond}
 use mathlib.Core.List.{List, [], _∷_, _++_, map}
 use lib.Dec.{leb}
-use lib.ListN.{length, take, drop, replicate, length-replicate}
+use lib.ListN.{length, take, drop}
 use lib.Seq.{take-at}
 use borrow.Author.Tests.{le-leb, leb-true, leb-false}
 use Rattle.rules.specs.declared.Link.{Link}
@@ -48,20 +48,3 @@ holding-loaded ls P h = by-size (leb (length ls) 1536) refl
     by-size : (t : Bool) → leb (length ls) 1536 ≡ t → P (flat ls)
     by-size true e = subst P (words-are ls (leb-true (length ls) 1536 e)) (h .few (leb-true (length ls) 1536 e))
     by-size false e = h .many (leb-false (length ls) 1536 e) ls (leb-false (length ls) 1536 e)
-
--- more of what holds
-pub holding-map : (w : Words) (P Q : List ℕ → Type 0) → ((ws : List ℕ) → P ws → Q ws) → Holding w P → Holding w Q
-holding-map w P Q f h = record { few = λ l. f (take (3 * w .count) (w .words)) (h .few l); many = λ g ls k. f (flat ls) (h .many g ls k) }
-
-pub holding-both : (w : Words) (P Q : List ℕ → Type 0) → Holding w P → Holding w Q → Holding w (λ ws. P ws × Q ws)
-holding-both w P Q h k = record { few = λ l. (h .few l, k .few l); many = λ g ls m. (h .many g ls m, k .many g ls m) }
-
--- what follows from any words, where it does not name them
-pub holding-some : (w : Words) (P : List ℕ → Type 0) (X : Type 0) → ((ws : List ℕ) → P ws → X) → Holding w P → X
-holding-some w P X f h = by-size (leb (w .count) 1536) refl
-  where
-    by-size : (t : Bool) → leb (w .count) 1536 ≡ t → X
-    by-size true e = f (take (3 * w .count) (w .words)) (h .few (leb-true (w .count) 1536 e))
-    by-size false e =
-        let many : List Link = replicate 1537 (record { a = 0; b = 0; relation = 0 }) in
-        f (flat many) (h .many (leb-false (w .count) 1536 e) many (omega (arith, length-replicate {A = Link} 1537 (record { a = 0; b = 0; relation = 0 }))))

@@ -3,7 +3,6 @@ pub mod Local
 pub mod Front
 pub mod Laws
 pub mod ManyLaws
-pub mod PageLaws
 pub mod Then
 pub mod From
 pub mod Shapes

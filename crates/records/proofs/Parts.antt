@@ -11,7 +11,7 @@ use lib.Seq.{take-suc, take-length, length-take-le}
 use Rattle.rules.specs.declared.Link.{Link}
 use Rattle.rules.specs.Network.{flat}
 use Rattle.rules.proofs.NetworkLaws.{flat-length}
-use Rattle.linktext.specs.Scratch.{withLink}
+use Rattle.network.specs.Promises.{withLink}
 use Rattle.linktext.proofs.ScratchLaws.{more-words}
 
 -- ---- numbers: link i of n, whose records take 12 bytes each

@@ -6,7 +6,6 @@ ghost use Prim.Native.Nat.{_+_, _*_, _≤_};
 ghost use lib.ListN.{length, drop};
 ghost use Rattle.rules.specs.Network.{flat};
 ghost use Rattle.rules.specs.Checks.{baseLimits, checkWords};
-ghost use Rattle.linktext.specs.Scratch.{withLink};
 ghost use Rattle.table.specs.Entries.{Tabled};
 ghost use Rattle.judge.specs.Judging.{Judged};
 ghost use Rattle.machine.specs.Answers.{Answered};
@@ -20,7 +19,6 @@ use rules::Verdict;
 
 pub mod arrays;
 pub mod loaded;
-pub mod page;
 
 // At most so many links.
 pub const MOST_LINKS: usize = 1536;
@@ -31,18 +29,7 @@ pub struct Words {
     pub words: [u32; 4608],
 }
 
-// One link's three words, at its place.
-fn put_link(words: &mut [u32], i: usize, l: Link)
-    requires { ⌜ 3 * i + 3 ≤ length (now words) ⌝ }
-    ensures { λ _. ⌜ now (words .exit) ≡ withLink (now (words .entry)) i l ⌝ }
-{
-    let at = WORDS_PER_LINK * i;
-    words[at] = l.a;
-    words[at + 1] = l.b;
-    words[at + 2] = l.relation;
-}
-
-// The links' words in the first of the lent words: the thin loop, which hands each link by value to `put_link`. It replies how many there
+// The links' words in the first of the lent words: the thin loop, which hands each link by value to `network::put_link`. It replies how many there
 // are.
 fn to_words(links: &[Link], words: &mut [u32]) -> usize
     requires { ⌜ 3 * length (now links) ≤ length (now words) ⌝ }
@@ -51,7 +38,7 @@ fn to_words(links: &[Link], words: &mut [u32]) -> usize
 {
     let mut i = 0;
     while i < links.len() {
-        put_link(words, i, links[i]);
+        network::put_link(words, i, links[i]);
         i += 1;
     }
     i

@@ -53,6 +53,22 @@ number-small (CannotStand line) = omega arith
 number-small (NotBest line) = omega arith
 number-small (NoDirection choice) = omega arith
 
+pub number-positive : (why : Refusal) → 1 ≤ refusalNumber why
+number-positive OverLimit = omega arith
+number-positive (ZeroAs link) = omega arith
+number-positive (NoRelation link) = omega arith
+number-positive (EqualEnds link) = omega arith
+number-positive (PairAgain link) = omega arith
+number-positive (TooManyAses link) = omega arith
+number-positive NoDestination = omega arith
+number-positive OutputShort = omega arith
+number-positive RoomShort = omega arith
+number-positive (Unreadable line) = omega arith
+number-positive (BrokenForm byte) = omega arith
+number-positive (CannotStand line) = omega arith
+number-positive (NotBest line) = omega arith
+number-positive (NoDirection choice) = omega arith
+
 -- Verdicts ------------------------------------------------------------------------------------------------------------------
 
 abbrev pub Fits : Verdict → Type 0

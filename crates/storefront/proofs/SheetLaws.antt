@@ -29,7 +29,7 @@ use Rattle.sheet.proofs.EntryLaws.{length-words}
 use Rattle.sheet.proofs.EntryLaws as entries
 use Rattle.storefront.specs.Page.{packed, packedNo}
 use Rattle.storefront.specs.Steps.{Placed, roomWords, Stably, linesFault, linesReply, linesAfter}
-use Rattle.storefront.proofs.PlaceLaws.{fits-placed, links-fit}
+use Rattle.storefront.proofs.PlaceLaws.{fits-placed}
 use Rattle.storefront.proofs.OrderLaws.{then-same, then-passes, few-ases, room-suffices, tabled-fits}
 
 -- Whether it fits -----------------------------------------------------------------------------------------------------------
@@ -47,9 +47,6 @@ table-length : (R : Routing) (us : List ℕ) → length (tableOf R us) ≡ 4 * l
 table-length R us =
     let count : length (entriesFor R us) ≡ length us = sym (length-map (entriesFor R us) (λ (e : Entry). e .number)) ∙ ap length (entries-numbers R us) in
     omega (arith, ap length (entries-words R us), length-words (entriesFor R us))
-
-pub bad-links-placed : (ws : List ℕ) {why : Refusal} → checkWords baseLimits ws ≡ checked.Refused why → Placed why
-bad-links-placed ws e = fits-placed (ap verdictOf e) (links-fit ws)
 
 module _ (ws : List ℕ) (d : ℕ) where
   abbrev us : List ℕ

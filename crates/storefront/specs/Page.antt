@@ -1,11 +1,15 @@
--- The boundary to Rust: what the four exported functions reply, packed into 64 bits, and what they leave in lent memory.
+-- The boundary to Rust: what the six exported functions reply, packed into 64 bits, and what they leave in lent memory. Four take a link
+-- text, two link records, of which they say what is said of the records' words.
 --
 --   packed c           a reply as one number: top byte the refusal number, 0 for accepted; then the value, or the place from bit 28 on
 --   sheetFault, sheetReply, sheetAfter   text to sheet: 1; lines; 2 to 6; 7; 8
 --   judgeReply         the judge: 1 of both byte strings; lines; as the judge in a room that suffices
 --   findingsReply      1 if a ring, plus 2 if joined
 --   runFault, runReply, tableAfter   a run: 1 of text, choices and deliveries; lines; as the machine in a room that suffices
+--   checkReply         the number of ASes: 1; 2 to 6
+--   pageFault, PageTabled   the stable table in a room that suffices, the number of its words: 1; 2 to 6; 7; 8
 use Prim.Native.Nat.{ℕ, _+_, _*_}
+use mathlib.Core.Path.{_≡_}
 use mathlib.Core.Bool.{Bool, true, false, _&&_}
 use mathlib.Core.List.{List}
 use lib.Dec.{leb}
@@ -17,14 +21,15 @@ use Rattle.rules.specs.declared.Refusal.the-variants.{OverLimit}
 use Rattle.rules.specs.declared.Verdict.{Verdict}
 use Rattle.rules.specs.declared.Verdict.the-variants.{Passes, Refused}
 use Rattle.rules.specs.Refusals.{refusalNumber, refusalPlace}
-use Rattle.rules.specs.Network.{asesOf, arcsOf}
-use Rattle.rules.specs.Entry.{andThen, unless, destinationFault, outputFault, filled}
+use Rattle.rules.specs.Network.{linksOf, asesOf, arcsOf}
+use Rattle.rules.specs.Entry.{andThen, unless, linksFault, destinationFault, outputFault, filled}
 use Rattle.rules.specs.Stable.{tableOf}
 use Rattle.rules.specs.Solve.{stableOf}
 use Rattle.rules.specs.Judge.{entriesFor, judge}
 use Rattle.rules.specs.Findings.{ringed, joined}
 use Rattle.rules.specs.Machine.{Run, runOf, lowest, isQuiet}
 use Rattle.linktext.specs.TextNetworks.{linksOfText, networkFault}
+use Rattle.table.specs.Entries.{TableAfter}
 use Rattle.sheet.specs.Form.{sheetOf, formFault, destinationOf, linesOf}
 use Rattle.machine.specs.Entries.{choiceFault}
 
@@ -99,3 +104,17 @@ unfoldable pub tableAfter : Limits → List ℕ → ℕ → List ℕ → ℕ →
 tableAfter limits t d choices further table =
     let ls = linksOfText limits t in
     filled (runFault limits t d choices further (length table)) (tableOf (runOf (arcsOf ls) d choices further .state .lines) (asesOf ls)) table
+
+-- the check of link words
+unfoldable pub checkReply : Limits → List ℕ → ℕ
+checkReply limits ws = packed (linksFault limits ws) (length (asesOf (linksOf ws)))
+
+-- the stable table of link words
+unfoldable pub pageFault : Limits → List ℕ → ℕ → ℕ → Verdict
+pageFault limits ws d table =
+    let us = asesOf (linksOf ws) in
+    andThen (linksFault limits ws) (andThen (destinationFault d us) (outputFault (4 * length us) table))
+
+pub record PageTabled (limits : Limits) (ws : List ℕ) (d : ℕ) (table : List ℕ) (r : ℕ) (table′ : List ℕ) : Type 0 where
+  pub replies : r ≡ packed (pageFault limits ws d (length table)) (4 * length (asesOf (linksOf ws)))
+  pub tabled : TableAfter (pageFault limits ws d (length table)) (linksOf ws) d table table′

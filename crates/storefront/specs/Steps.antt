@@ -2,7 +2,8 @@
 --
 --   Placed why         a refusal's place fits its 28 bits
 --   Given t ws         the words ws are those of the links of the text t
---   ReadText t r ws    reading the text t: the reply r is the number of its links, whose words stand first in ws, or its refusal
+--   Unread t n         the text t is refused, and n is its refusal, packed
+--   ReadText t r ws    reading the text t: the words of its links stand first in ws, up to the end that r says; or r has its refusal
 --   roomWords          the room
 --   foundReply, judgedReply, ranReply   what the three entries on link words reply, packed
 --   Stably ws d old r table   the reply r of the stable table, and the table that was `old`
@@ -12,8 +13,6 @@ use mathlib.Core.Path.{_≡_}
 use mathlib.Core.List.{List}
 use lib.ListN.{length, take}
 use Rattle.rules.specs.declared.Refusal.{Refusal}
-use Rattle.rules.specs.declared.Checked.{Checked}
-use Rattle.rules.specs.declared.Checked.the-variants as checked
 use Rattle.rules.specs.declared.Verdict.{Verdict}
 use Rattle.rules.specs.declared.Verdict.the-variants.{Refused}
 use Rattle.rules.specs.Refusals.{refusalPlace}
@@ -29,7 +28,8 @@ use Rattle.table.specs.Entries.{tableFault, TableAfter}
 use Rattle.sheet.specs.Form.{sheetOf}
 use Rattle.sheet.specs.Entries.{judgeReply}
 use Rattle.machine.specs.Entries.{runFault, runOn}
-use Rattle.storefront.specs.Page.{packed, findingsValue, runValue}
+use Rattle.storefront.specs.declared.text.Reading.{Reading}
+use Rattle.storefront.specs.Page.{packed, packedNo, findingsValue, runValue}
 
 abbrev pub Placed : Refusal → Type 0
 Placed why = refusalPlace why < 268435456
@@ -38,11 +38,15 @@ pub record Given (t ws : List ℕ) : Type 0 where
   pub links : linksOf ws ≡ linksOfText baseLimits t
   pub fault : linksFault baseLimits ws ≡ networkFault baseLimits t
 
-pub record ReadText (t : List ℕ) (r : Checked) (ws : List ℕ) : Type 0 where
-  pub room : (m : ℕ) → r ≡ checked.Accepted m → 3 * m ≤ length ws
-  pub given : (m : ℕ) → r ≡ checked.Accepted m → Given t (take (3 * m) ws)
-  pub fault : (why : Refusal) → r ≡ checked.Refused why → networkFault baseLimits t ≡ Refused why
-  pub placed : (why : Refusal) → r ≡ checked.Refused why → Placed why
+pub record Unread (t : List ℕ) (n : ℕ) : Type 0 where
+  pub why : Refusal
+  pub fault : networkFault baseLimits t ≡ Refused why
+  pub packs : n ≡ packedNo why
+
+pub record ReadText (t : List ℕ) (r : Reading) (ws : List ℕ) : Type 0 where
+  pub within : r .end ≤ length ws
+  pub given : r .refusal ≤ 0 → Given t (take (r .end) ws)
+  pub unread : 0 < r .refusal → Unread t (r .refusal)
 
 -- 'working room of 16,384 words always suffices'
 abbrev pub roomWords : ℕ

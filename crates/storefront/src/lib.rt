@@ -1,17 +1,18 @@
-// What the storefront's server calls: link texts, sheets and tables as bytes and words, replies packed into one number.
+// What the storefront's server calls: link texts, sheets and tables as bytes and words, replies packed into one number. With link records
+// instead of a text: `links`.
 ghost use mathlib.Core.Path.{_≡_};
 ghost use lib.ListN.{length};
 ghost use Rattle.rules.specs.Checks.{baseLimits};
 ghost use Rattle.storefront.specs.Page.{sheetReply, sheetAfter, judgeReply, findingsReply, runReply, tableAfter};
 use machine::MOST_CHOICES;
 use machine::MOST_DELIVERIES;
-use network::WORDS_PER_LINK;
-use rules::Checked;
 use rules::Limits;
 use rules::Refusal;
 
+pub mod links;
 mod pack;
 mod sheets;
+mod tables;
 mod text;
 mod words;
 
@@ -22,10 +23,12 @@ pub extern "C" fn bostuvrel_sheet(text: &[u8], destination: u32, sheet: &mut [u8
     ensures bytes { λ _. ⌜ now (sheet .exit) ≡ sheetAfter baseLimits (now (text .entry)) destination (now (sheet .entry)) ⌝ }
 {
     let mut list = [0u32; 4608];
-    match text::read(text, &mut list) {
-        Checked::Accepted(m) => sheets::make(&list[..WORDS_PER_LINK * m], destination, sheet),
-        Checked::Refused(why) => pack::refused(why),
+    let got = text::read(text, &mut list);
+    if 0 < got.refusal {
+        return got.refusal;
     }
+    let end = got.end;
+    sheets::make(&list[..end], destination, sheet)
 }
 
 // The judge on a sheet for the links of a text: 0 where it passes.
@@ -38,10 +41,12 @@ pub extern "C" fn bostuvrel_judge(text: &[u8], sheet: &[u8]) -> u64
         return pack::refused(Refusal::OverLimit);
     }
     let mut list = [0u32; 4608];
-    match text::read(text, &mut list) {
-        Checked::Accepted(m) => words::judge(&list[..WORDS_PER_LINK * m], sheet),
-        Checked::Refused(why) => pack::refused(why),
+    let got = text::read(text, &mut list);
+    if 0 < got.refusal {
+        return got.refusal;
     }
+    let end = got.end;
+    words::judge(&list[..end], sheet)
 }
 
 // The findings on the links of a text: 1 if a ring, plus 2 if joined.
@@ -50,10 +55,12 @@ pub extern "C" fn bostuvrel_findings(text: &[u8]) -> u64
     ensures { λ r. ⌜ r ≡ findingsReply baseLimits (now (text .entry)) ⌝ }
 {
     let mut list = [0u32; 4608];
-    match text::read(text, &mut list) {
-        Checked::Accepted(m) => words::find(&list[..WORDS_PER_LINK * m]),
-        Checked::Refused(why) => pack::refused(why),
+    let got = text::read(text, &mut list);
+    if 0 < got.refusal {
+        return got.refusal;
     }
+    let end = got.end;
+    words::find(&list[..end])
 }
 
 // A run over the links of a text: deliveries, idle choices and quiet; the table gets the lines of that moment.
@@ -75,14 +82,10 @@ pub extern "C" fn bostuvrel_run(
         return pack::refused(Refusal::OverLimit);
     }
     let mut list = [0u32; 4608];
-    match text::read(text, &mut list) {
-        Checked::Accepted(m) => words::run(
-            &list[..WORDS_PER_LINK * m],
-            destination,
-            choices,
-            further,
-            table,
-        ),
-        Checked::Refused(why) => pack::refused(why),
+    let got = text::read(text, &mut list);
+    if 0 < got.refusal {
+        return got.refusal;
     }
+    let end = got.end;
+    words::run(&list[..end], destination, choices, further, table)
 }

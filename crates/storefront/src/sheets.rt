@@ -4,7 +4,8 @@ ghost use mathlib.Core.Path.{_≡_};
 ghost use lib.ListN.{length};
 ghost use Rattle.rules.specs.declared.Checked.the-variants.{Accepted};
 ghost use Rattle.rules.specs.Checks.{baseLimits, checkWords};
-ghost use Rattle.rules.specs.Entry.{outputFault, filled};
+ghost use Rattle.rules.specs.declared.Verdict.the-variants.{Passes};
+ghost use Rattle.rules.specs.Entry.{linksFault, outputFault, filled};
 ghost use Rattle.rules.specs.Judge.{entriesOf};
 ghost use Rattle.sheet.specs.Form.{sheetOf};
 ghost use Rattle.storefront.specs.Page.{packed};
@@ -42,12 +43,13 @@ fn make_for(words: &[u32], n: usize, destination: u32, sheet: &mut [u8]) -> u64
     }
 }
 
-// The stable table of the links, in a room of its own.
+// The stable table of accepted links, in a room of its own.
 fn tabulate(words: &[u32], destination: u32, table: &mut [u32]) -> Verdict
+    requires { ⌜ linksFault baseLimits (now words) ≡ Passes ⌝ }
     ensures { λ r. ⌜ Stably (now (words .entry)) destination (now (table .entry)) r (now (table .exit)) ⌝ }
 {
     let mut room = [0u32; 16384];
-    table::stable_table(words, destination, table, &mut room)
+    table::accepted_table(words, destination, table, &mut room)
 }
 
 // The lines of a table as a sheet, if it fits.

@@ -2,7 +2,7 @@
 use Prim.Native.Nat.{ℕ, suc, _*_, _/_, _%_, _≤_, _<_}
 use mathlib.Core.Path.{_≡_, refl, sym, _∙_, ap, subst}
 use mathlib.Core.Logic.{_≢_}
-use mathlib.Core.Bool.{Bool, true, false}
+use mathlib.Core.Bool.{true, false}
 use mathlib.Core.List.{List, [], _∷_}
 use native.Mathlib.Omega.{arith}
 use borrow.Author.Tests.{leb-true, eqb-true, eq-eqb, ne-eqb}
@@ -19,8 +19,9 @@ use Rattle.rules.specs.declared.Verdict.the-variants.{Passes, Refused}
 use Rattle.rules.specs.Lists.{anyOf}
 use Rattle.rules.specs.Network.{linksOf, asesOf}
 use Rattle.rules.specs.Checks.{checkWords, roomNeed}
-use Rattle.rules.specs.Entry.{andThen, unless, verdictOf, linksFault, destinationFault, outputFault, roomFault}
+use Rattle.rules.specs.Entry.{andThen, verdictOf, linksFault, destinationFault, outputFault, roomFault}
 use Rattle.rules.proofs.ListLaws.{anyOf-true, anyOf-one}
+use Rattle.rules.proofs.JudgeLaws.{both-pass, test-passes}
 use Rattle.rules.proofs.NetworkLaws.{flat-linksOf, flat-length, ases-ascending}
 use Rattle.rules.proofs.AcceptedLinks.{checkWords-accepted}
 use Rattle.network.specs.declared.Place.{Place}
@@ -104,15 +105,7 @@ module _ (limits : Limits) (ws : List ℕ) {known : ℕ} (a : checkWords limits 
 
 -- An input that passes --------------------------------------------------------------------------------------------------------
 
-then-passes : (v w : Verdict) → andThen v w ≡ Passes → (v ≡ Passes) × (w ≡ Passes)
-then-passes Passes w e = (refl, e)
-then-passes (Refused r) w e = absurd (not-passes r e)
-
-unless-passes : (b : Bool) (r : Refusal) → unless b r ≡ Passes → b ≡ true
-unless-passes true r e = refl
-unless-passes false r e = absurd (not-passes r e)
-
-accepted : (c : Checked) → verdictOf c ≡ Passes → (n : ℕ) × (c ≡ checked.Accepted n)
+pub accepted : (c : Checked) → verdictOf c ≡ Passes → (n : ℕ) × (c ≡ checked.Accepted n)
 accepted (checked.Accepted n) e = (n, refl)
 accepted (checked.Refused r) e = absurd (not-passes r e)
 
@@ -123,11 +116,11 @@ passes-filling : (limits : Limits) (ws : List ℕ) (d : ℕ) (list : List ℕ) (
 unfolding tableFault
 passes-filling limits ws d list table room few listed e =
     let us = asesOf (linksOf ws) in
-    let (links, e₁) = then-passes (linksFault limits ws) _ e in
-    let (there, e₂) = then-passes (destinationFault d us) _ e₁ in
-    let (entries, words) = then-passes (outputFault (4 * length us) table) _ e₂ in
+    let (links, e₁) = both-pass (linksFault limits ws) _ e in
+    let (there, e₂) = both-pass (destinationFault d us) _ e₁ in
+    let (entries, words) = both-pass (outputFault (4 * length us) table) _ e₂ in
     let (n, a) = accepted (checkWords limits ws) links in
-    let (x, is, same) = anyOf-one (eqb d) us (unless-passes (anyOf (eqb d) us) NoDestination there) in
+    let (x, is, same) = anyOf-one (eqb d) us (test-passes (anyOf (eqb d) us) Passes NoDestination there .0) in
     let most = accepted-ases limits ws a in (
       record {
         whole = whole-links ws (checkWords-accepted limits ws n a .0);
@@ -135,8 +128,8 @@ passes-filling limits ws d list table room few listed e =
         count = refl;
         few = omega arith;
         member = rw (eqb-true d x same) is;
-        entries = leb-true (4 * length us) table (unless-passes _ OutputShort entries);
-        words = leb-true _ room (unless-passes _ RoomShort words);
+        entries = leb-true (4 * length us) table (test-passes _ Passes OutputShort entries .0);
+        words = leb-true _ room (test-passes _ Passes RoomShort words .0);
       },
       most,
     )

@@ -3,7 +3,9 @@ ghost use Prim.Native.Nat.{_*_, _≤_};
 ghost use mathlib.Core.Path.{_≡_};
 ghost use lib.ListN.{length, replicate};
 ghost use Rattle.rules.specs.Network.{linksOf};
+ghost use Rattle.rules.specs.declared.Verdict.the-variants.{Passes};
 ghost use Rattle.rules.specs.Checks.{baseLimits};
+ghost use Rattle.rules.specs.Entry.{linksFault};
 ghost use Rattle.table.specs.Entries.{Filled, Tabled};
 ghost use Rattle.offers.specs.Steps.{Placed};
 ghost use Rattle.table.specs.Steps.{Filling, Tried, Agreed};
@@ -92,9 +94,14 @@ fn fill(
     network::clear(room);
 }
 
-// The stable table to the destination, four words per AS, for a list of link words, with working room; or the first refusal of 1 to 8.
-// The lists of ASes and of best offers hold 512 ASes.
-pub fn stable_table(words: &[u32], destination: u32, table: &mut [u32], room: &mut [u32]) -> Verdict
+// The stable table of accepted links, or refusal 7 or 8. The lists of ASes and of best offers hold 512 ASes.
+pub fn accepted_table(
+    words: &[u32],
+    destination: u32,
+    table: &mut [u32],
+    room: &mut [u32],
+) -> Verdict
+    requires { ⌜ linksFault baseLimits (now words) ≡ Passes ⌝ }
     ensures { λ r. ⌜ Tabled baseLimits (now (words .entry)) destination (now (table .entry)) (now (room .entry)) r (now (table .exit)) (now (room .exit)) ⌝ }
 {
     let mut ases = [0u32; 512];
@@ -105,4 +112,15 @@ pub fn stable_table(words: &[u32], destination: u32, table: &mut [u32], room: &m
     let mut best = [0u32; 2048];
     fill(words, destination, &ases, n, table, room, &mut best);
     Verdict::Passes
+}
+
+// The stable table to the destination, four words per AS, for a list of link words, with working room; or the first refusal of 1 to 8.
+pub fn stable_table(words: &[u32], destination: u32, table: &mut [u32], room: &mut [u32]) -> Verdict
+    ensures { λ r. ⌜ Tabled baseLimits (now (words .entry)) destination (now (table .entry)) (now (room .entry)) r (now (table .exit)) (now (room .exit)) ⌝ }
+{
+    let checked = network::check_links(words);
+    let Checked::Accepted(_) = checked else {
+        return look::refused(checked);
+    };
+    accepted_table(words, destination, table, room)
 }

@@ -1,9 +1,10 @@
-// The look at the input: every refusal, in order, before a lent word is written.
+// The look at the input after its links: refusals 7 and 8, in order, before a lent word is written.
 ghost use Prim.Native.Nat.{_*_, _/_, _≤_, _<_};
 ghost use mathlib.Core.Path.{_≡_};
 ghost use lib.ListN.{length, take};
 ghost use Rattle.rules.specs.Checks.{baseLimits, roomNeed};
-ghost use Rattle.rules.specs.Entry.{andThen, verdictOf, destinationFault, outputFault, roomFault};
+ghost use Rattle.rules.specs.declared.Verdict.the-variants.{Passes};
+ghost use Rattle.rules.specs.Entry.{andThen, verdictOf, linksFault, destinationFault, outputFault, roomFault};
 ghost use Rattle.table.specs.Steps.{checkedOf, Sized, Looked};
 use network::Place;
 use network::WORDS_PER_LINK;
@@ -54,15 +55,11 @@ fn look_further(
     Checked::Accepted(n)
 }
 
-// Refusals 1 to 8. The ASes of an accepted list of links are left in the list that is lent for them.
+// Refusals 7 and 8 of accepted links. Their ASes are left in the list that is lent for them.
 pub fn look(words: &[u32], destination: u32, ases: &mut [u32], table: usize, room: usize) -> Checked
-    requires { ⌜ baseLimits .ases ≤ length (now ases) ⌝ }
+    requires { ⌜ (baseLimits .ases ≤ length (now ases)) × (linksFault baseLimits (now words) ≡ Passes) ⌝ }
     ensures { λ r. ⌜ Looked baseLimits (now (words .entry)) destination (now (ases .exit)) table room r ⌝ }
 {
-    let checked = network::check_links(words);
-    let Checked::Accepted(_) = checked else {
-        return checked;
-    };
     let n = network::list_ases(words, ases);
     look_further(
         words.len() / WORDS_PER_LINK,

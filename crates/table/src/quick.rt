@@ -6,86 +6,77 @@ ghost use mathlib.Core.Bool.{true};
 ghost use lib.ListN.{length};
 ghost use Rattle.network.specs.Promises.{HasLink};
 ghost use Rattle.table.specs.Guess.{Guessing, Guessed};
-use network::WORDS_PER_LINK;
+use offers::scratch;
 use rules::TypeLength;
 
-// The links of the longest list, and the ASes of the largest network: what the scratch memory has words for.
-const LINKS: usize = 1536;
+// The ends of a provider link, by their words among the places: its provider stands first.
+const PROVIDER: usize = 0;
 
-const ASES: usize = 512;
+const CUSTOMER: usize = 1;
 
-// Word i, and 0 past the end.
-fn at(s: &[u32], i: usize) -> u32 {
-    if i < s.len() {
-        return s[i];
-    }
-    0
-}
+// The index (offers::scratch) notes links. Its heads: by places the provider links over which the AS there tells, and all peer links.
+const HEADS: usize = 1536;
 
-// Word i gets a value, if there is such a word.
-fn put(s: &mut [u32], i: usize, value: u32) {
-    if i < s.len() {
-        s[i] = value;
-    }
-}
+const PEERS: usize = 2048;
 
-// The index of directions. A direction is known by the word of the places that says where its hearer stands, and noted as one more
-// than that word's place, so that 0 is none. Words to 2 * LINKS: the direction noted before this one, with the same teller and kind.
-// Words from there: the last one noted, by kind and teller.
-fn last_noted(kind: u32, teller: u32) -> usize {
-    2 * LINKS - ASES + ASES * (kind as usize) + (teller as usize)
-}
-
-// One direction is noted.
-fn note(index: &mut [u32], hearer: usize, teller: u32, kind: u32)
-    requires { ⌜ hearer < 4294967295 ⌝ }
+// The other end of a provider link.
+fn other(end: usize) -> usize
+    ensures { λ r. ⌜ r < 2 ⌝ }
 {
-    let last = last_noted(kind, teller);
-    put(index, hearer, at(index, last));
-    put(index, last, (hearer + 1) as u32);
+    if end == PROVIDER {
+        return CUSTOMER;
+    }
+    PROVIDER
 }
 
-// Both directions of link i.
-fn note_link(words: &[u32], places: &[u32], index: &mut [u32], i: usize)
+// Link i, over which one end of a provider link hears.
+fn note_link(words: &[u32], places: &[u32], index: &mut [u32], hearer: usize, i: usize)
     requires { ⌜ HasLink (now words) i × (i < 1536) ⌝ }
 {
-    let link = network::link_at(words, i);
-    note(index, 2 * i, at(places, 2 * i + 1), link.kind_from_a());
-    note(index, 2 * i + 1, at(places, 2 * i), link.kind_from_b());
-}
-
-// The number of links, as far as the index has words for them.
-fn indexed(words: &[u32]) -> usize
-    ensures { λ r. ⌜ (r ≤ 1536) × (3 * r ≤ length (now (words .entry))) ⌝ }
-{
-    let m = words.len() / WORDS_PER_LINK;
-    if LINKS < m {
-        return LINKS;
+    if network::link_at(words, i).relation == 1 {
+        let teller = scratch::at(places, 2 * i + other(hearer));
+        scratch::note(index, scratch::head_of(HEADS, teller), i);
+    } else {
+        scratch::note(index, PEERS, i);
     }
-    m
 }
 
-// All directions, those with smaller places first.
-fn note_links(words: &[u32], places: &[u32], index: &mut [u32]) {
-    let m = indexed(words);
+// All links, those with smaller places first.
+fn note_links(words: &[u32], places: &[u32], index: &mut [u32], hearer: usize) {
+    let m = scratch::indexed(words);
     let mut i = 0;
     while i < m {
-        note_link(words, places, index, i);
+        note_link(words, places, index, hearer, i);
         i += 1;
     }
+}
+
+// Where an end of a noted link stands.
+fn place_of(places: &[u32], noted: u32, end: usize) -> u32
+    requires { ⌜ (0 < noted) × (end < 2) ⌝ }
+{
+    scratch::at(places, 2 * ((noted - 1) as usize) + end)
 }
 
 // ASes wait on a shelf, in a stack for each length. An AS is marked by one more than its place, so that 0 is none. Words to ASES: the
 // mark on top, by length. Words past the one there, which stays 0: the mark below, by place.
 fn push(shelf: &mut [u32], mark: u32, length: usize) {
-    put(shelf, ASES + (mark as usize), at(shelf, length));
-    put(shelf, length, mark);
+    scratch::put(
+        shelf,
+        scratch::ASES + (mark as usize),
+        scratch::at(shelf, length),
+    );
+    scratch::put(shelf, length, mark);
 }
 
 // The mark on top of a stack, taken off.
 fn pop(shelf: &mut [u32], length: usize) -> u32 {
-    let mark = at(shelf, length);
-    put(shelf, length, at(shelf, ASES + (mark as usize)));
+    let mark = scratch::at(shelf, length);
+    scratch::put(
+        shelf,
+        length,
+        scratch::at(shelf, scratch::ASES + (mark as usize)),
+    );
     mark
 }
 
@@ -113,51 +104,36 @@ fn tell(table: &mut [u32], shelf: &mut [u32], hearer: u32, pair: TypeLength, n: 
     }
 }
 
-// Where the hearer of a direction stands.
-fn hearer_over(places: &[u32], direction: u32) -> u32
-    requires { ⌜ 0 < direction ⌝ }
-{
-    at(places, (direction - 1) as usize)
-}
-
-// The direction noted before this one: only a smaller one counts.
-fn noted_before(index: &[u32], direction: u32) -> u32
-    requires { ⌜ 0 < direction ⌝ }
-    ensures { λ r. ⌜ r < direction ⌝ }
-{
-    let before = at(index, (direction - 1) as usize);
-    if before < direction {
-        return before;
-    }
-    0
-}
-
-// The AS with this mark tells a pair over its directions of the pair's type; for type 4 the index has none.
+// The AS under a head tells a pair over its links to their hearers.
 fn tell_over(
     places: &[u32],
     index: &[u32],
     table: &mut [u32],
     shelf: &mut [u32],
-    teller: u32,
+    head: usize,
+    hearer: usize,
     pair: TypeLength,
     n: usize,
 )
-    requires { ⌜ Guessing n (now table) × (pair .length < n) ⌝ }
+    requires { ⌜ Guessing n (now table) × (pair .length < n) × (hearer < 2) ⌝ }
     ensures { λ _. ⌜ Guessed n (now (table .entry)) (now (table .exit)) ⌝ }
 {
-    let mut direction = at(index, last_noted(pair.typ, teller));
-    while 0 < direction {
-        tell(table, shelf, hearer_over(places, direction), pair, n);
-        direction = noted_before(index, direction);
+    let mut noted = scratch::at(index, head);
+    while 0 < noted {
+        tell(table, shelf, place_of(places, noted, hearer), pair, n);
+        noted = scratch::noted_before(index, noted);
     }
 }
 
-// What the AS at a place tells over links of a kind.
+// What the AS at a place tells over links of a kind that its line goes on over.
 fn told(table: &[u32], i: usize, kind: u32, n: usize) -> TypeLength
     requires { ⌜ Guessing n (now table) ⌝ }
 {
     if i < n {
-        return offers::pair_at(table, i).extended(kind, 1);
+        return TypeLength {
+            typ: kind,
+            length: offers::pair_at(table, i).length + 1,
+        };
     }
     TypeLength::UNREACHABLE
 }
@@ -169,30 +145,33 @@ fn tell_from(
     table: &mut [u32],
     shelf: &mut [u32],
     mark: u32,
+    hearer: usize,
     kind: u32,
     n: usize,
 )
-    requires { ⌜ Guessing n (now table) × (0 < mark) ⌝ }
+    requires { ⌜ Guessing n (now table) × (0 < mark) × (hearer < 2) ⌝ }
     ensures { λ _. ⌜ Guessed n (now (table .entry)) (now (table .exit)) ⌝ }
 {
     let teller = mark - 1;
     let pair = told(table, teller as usize, kind, n);
     if (pair.length as usize) < n {
-        tell_over(places, index, table, shelf, teller, pair, n);
+        let head = scratch::head_of(HEADS, teller);
+        tell_over(places, index, table, shelf, head, hearer, pair, n);
     }
 }
 
-// The ASes of a length tell over their links of a kind, at most n of them.
+// The ASes of a length tell, at most n of them.
 fn tell_length(
     places: &[u32],
     index: &[u32],
     table: &mut [u32],
     shelf: &mut [u32],
     length: usize,
+    hearer: usize,
     kind: u32,
     n: usize,
 )
-    requires { ⌜ Guessing n (now table) ⌝ }
+    requires { ⌜ Guessing n (now table) × (hearer < 2) ⌝ }
     ensures { λ _. ⌜ Guessed n (now (table .entry)) (now (table .exit)) ⌝ }
 {
     let mut left = n;
@@ -201,7 +180,7 @@ fn tell_length(
         if mark == 0 {
             return;
         }
-        tell_from(places, index, table, shelf, mark, kind, n);
+        tell_from(places, index, table, shelf, mark, hearer, kind, n);
         left -= 1;
     }
 }
@@ -225,35 +204,127 @@ fn wait(shelf: &mut [u32], i: usize, pair: TypeLength)
     }
 }
 
-// One phase: all that is told over links of a kind, from short lengths to long ones.
+// All that is told over links of a kind, from short lengths to long ones, as far as somebody waits: lengths have no gaps.
 fn guess_over(
     places: &[u32],
     index: &[u32],
     table: &mut [u32],
     shelf: &mut [u32],
+    hearer: usize,
     kind: u32,
     n: usize,
 )
-    requires { ⌜ Guessing n (now table) ⌝ }
+    requires { ⌜ Guessing n (now table) × (hearer < 2) ⌝ }
     ensures { λ _. ⌜ Guessed n (now (table .entry)) (now (table .exit)) ⌝ }
 {
     wait_all(table, shelf, n);
     let mut length = 0;
     while length < n {
-        tell_length(places, index, table, shelf, length, kind, n);
+        if scratch::at(shelf, length) == 0 {
+            return;
+        }
+        tell_length(places, index, table, shelf, length, hearer, kind, n);
         length += 1;
     }
 }
 
-// The pairs of all n lines, from those that are there: over customer links, then peer links, then provider links.
+// The AS at one place hears its peer at another, which tells a customer route alone.
+fn hear_peer(table: &mut [u32], hearer: u32, teller: u32, n: usize)
+    requires { ⌜ Guessing n (now table) ⌝ }
+    ensures { λ _. ⌜ Guessed n (now (table .entry)) (now (table .exit)) ⌝ }
+{
+    let pair = told(table, teller as usize, 2, n);
+    let i = hearer as usize;
+    if takes(table, i, teller as usize, pair, n) {
+        let next = offers::next_at(table, i);
+        offers::put_line(table, i, pair, next);
+    }
+}
+
+// Whether entry i takes a pair that another tells as a customer route.
+fn takes(table: &[u32], i: usize, teller: usize, pair: TypeLength, n: usize) -> bool
+    requires { ⌜ 4 * n ≤ length (now table) ⌝ }
+    ensures { λ r. ⌜ (r ≡ true → (i < n) × (pair .length < n)) ⌝ }
+{
+    if i < n {
+        if teller < n {
+            if (pair.length as usize) < n {
+                return (offers::pair_at(table, teller).typ == 1)
+                    & pair.beats(offers::pair_at(table, i));
+            }
+        }
+    }
+    false
+}
+
+// Both ends of a noted peer link hear each other.
+fn hear_both(places: &[u32], table: &mut [u32], noted: u32, n: usize)
+    requires { ⌜ Guessing n (now table) × (0 < noted) ⌝ }
+    ensures { λ _. ⌜ Guessed n (now (table .entry)) (now (table .exit)) ⌝ }
+{
+    let a = place_of(places, noted, 0);
+    let b = place_of(places, noted, 1);
+    hear_peer(table, a, b, n);
+    hear_peer(table, b, a, n);
+}
+
+// Those of all peer links.
+fn hear_peers(places: &[u32], index: &[u32], table: &mut [u32], n: usize)
+    requires { ⌜ Guessing n (now table) ⌝ }
+    ensures { λ _. ⌜ Guessed n (now (table .entry)) (now (table .exit)) ⌝ }
+{
+    let mut noted = scratch::at(index, PEERS);
+    while 0 < noted {
+        hear_both(places, table, noted, n);
+        noted = scratch::noted_before(index, noted);
+    }
+}
+
+// All that is told over customer links, and then over peer links.
+fn guess_up(words: &[u32], places: &[u32], table: &mut [u32], n: usize)
+    requires { ⌜ Guessing n (now table) ⌝ }
+    ensures { λ _. ⌜ Guessed n (now (table .entry)) (now (table .exit)) ⌝ }
+{
+    let mut index = [0u32; 2049];
+    let mut shelf = [0u32; 1025];
+    note_links(words, places, &mut index, PROVIDER);
+    guess_over(places, &index, table, &mut shelf, PROVIDER, 1, n);
+    hear_peers(places, &index, table, n);
+}
+
+// Whether one of the first n entries is unreachable.
+fn any_open(table: &[u32], n: usize) -> bool
+    requires { ⌜ 4 * n ≤ length (now table) ⌝ }
+{
+    let mut i = 0;
+    while i < n {
+        if is_open(table, i, n) {
+            return true;
+        }
+        i += 1;
+    }
+    false
+}
+
+// All that is told over provider links.
+fn guess_down(words: &[u32], places: &[u32], table: &mut [u32], n: usize)
+    requires { ⌜ Guessing n (now table) ⌝ }
+    ensures { λ _. ⌜ Guessed n (now (table .entry)) (now (table .exit)) ⌝ }
+{
+    let mut index = [0u32; 2049];
+    let mut shelf = [0u32; 1025];
+    note_links(words, places, &mut index, CUSTOMER);
+    guess_over(places, &index, table, &mut shelf, CUSTOMER, 3, n);
+}
+
+// The pairs of all n lines, from those that are there: over customer links, then peer links, then provider links, if somebody is left to
+// hear of them.
 pub fn guess(words: &[u32], places: &[u32], table: &mut [u32], n: usize)
     requires { ⌜ Guessing n (now table) ⌝ }
     ensures { λ _. ⌜ Guessed n (now (table .entry)) (now (table .exit)) ⌝ }
 {
-    let mut index = [0u32; 4608];
-    note_links(words, places, &mut index);
-    let mut shelf = [0u32; 1025];
-    guess_over(places, &index, table, &mut shelf, 1, n);
-    guess_over(places, &index, table, &mut shelf, 2, n);
-    guess_over(places, &index, table, &mut shelf, 3, n);
+    guess_up(words, places, table, n);
+    if any_open(table, n) {
+        guess_down(words, places, table, n);
+    }
 }

@@ -1,7 +1,10 @@
-// P1 to P10 of document 01 run on the code; what it prints is held to the document's sentences in the file stdout.
+// P1 to P10 of document 01 run on the code, P1 by link records too; what it prints is held to the document's sentences in the file stdout.
 use findings::Found;
 use libc::STDOUT_FILENO;
 use machine::Ran;
+use rules::Checked;
+use rules::Link;
+use rules::Refusal;
 use rules::Verdict;
 
 // Network A: 10|20|-1, 20|30|-1, 30|40|-1, 10|40|0, 10|50|-1.
@@ -20,6 +23,14 @@ fn say(word: &[u8]) {
 fn say_number(number: u32) {
     say(b" ");
     io::print_decimal(STDOUT_FILENO, number as u64);
+}
+
+// A refusal: number and place.
+fn say_refused(why: Refusal) {
+    say(b" refused");
+    say_number(why.number());
+    say(b" ");
+    io::print_decimal(STDOUT_FILENO, why.place() as u64);
 }
 
 // The entry that starts at a word, if it is whole and its number is not 0.
@@ -85,12 +96,7 @@ fn say_judged(sheet: &[u8; 65]) {
     let mut room = [0u32; 80];
     match judge::judge_sheet(&NETWORK_A, sheet, &mut room) {
         Verdict::Passes => say(b" passes"),
-        Verdict::Refused(why) => {
-            say(b" refused");
-            say_number(why.number());
-            say(b" ");
-            io::print_decimal(STDOUT_FILENO, why.place() as u64);
-        }
+        Verdict::Refused(why) => say_refused(why),
     }
     say(b"\n");
 }
@@ -140,6 +146,75 @@ fn say_runs() {
     say_run(&choices, 0);
 }
 
+// Network A as records, the first five of sixteen; the relation of 10 and 50 is given.
+fn records_a(relation: u32) -> [Link; 16] {
+    let first = Link {
+        a: 10,
+        b: 20,
+        relation: 1,
+    };
+    let mut links = [first; 16];
+    links[1] = Link {
+        a: 20,
+        b: 30,
+        relation: 1,
+    };
+    links[2] = Link {
+        a: 30,
+        b: 40,
+        relation: 1,
+    };
+    links[3] = Link {
+        a: 10,
+        b: 40,
+        relation: 0,
+    };
+    links[4] = Link {
+        a: 10,
+        b: 50,
+        relation,
+    };
+    links
+}
+
+// The check of the first five records: the number of their ASes.
+fn say_checked(links: [Link; 16]) {
+    match records::arrays::check_links(links, 5) {
+        Checked::Accepted(n) => {
+            say(b" ases ");
+            io::print_decimal(STDOUT_FILENO, n as u64);
+        }
+        Checked::Refused(why) => say_refused(why),
+    }
+    say(b"\n");
+}
+
+// The stable table of the first five records to 40.
+fn say_loaded(links: [Link; 16]) {
+    let mut table = [0u32; 20];
+    let mut room = [0u32; 80];
+    let w = records::arrays::load(links, 5);
+    match records::loaded::stable_table(w, 40, &mut table, &mut room) {
+        Verdict::Passes => say_lines(&table),
+        Verdict::Refused(why) => say_refused(why),
+    }
+    say(b"\n");
+}
+
+// P1 by records, and the same with a relation that is none, which no text can have.
+fn say_records() {
+    let links = records_a(1);
+    say(b"P1 records");
+    say_checked(links);
+    say(b"P1 records");
+    say_loaded(links);
+    let wrong = records_a(2);
+    say(b"relation 2");
+    say_checked(wrong);
+    say(b"relation 2");
+    say_loaded(wrong);
+}
+
 fn main() {
     say(b"P1");
     say_table(&NETWORK_A, 40);
@@ -160,4 +235,5 @@ fn main() {
     say(b"P9");
     say_findings(&RING_OF_THREE);
     say_sheets();
+    say_records();
 }

@@ -1,5 +1,6 @@
 //! One input to both, and what came back compared.
 use crate::second::{self, Line, Network, No, Ran};
+use bostuvrel::Link;
 use std::collections::{BTreeMap, BTreeSet};
 
 /// Cases so far and the refusal numbers that they met. The seed of the case at hand is kept for who reads a failure; 0 for fixed cases.
@@ -28,6 +29,11 @@ fn pattern_words(count: usize) -> Vec<u32> {
 /// The four words of each line, as a table has them.
 fn table_words(lines: &BTreeMap<u32, Line>) -> Vec<u32> {
     lines.iter().flat_map(|(u, line)| [*u, line.0, line.1, line.2]).collect()
+}
+
+/// Records as the second program has them.
+fn as_second(links: &[Link]) -> Vec<second::Link> {
+    links.iter().map(|l| second::Link { a: l.a, b: l.b, relation: l.relation }).collect()
 }
 
 impl Compare {
@@ -126,6 +132,31 @@ impl Compare {
             self.holds(bostuvrel::judge(text, second::sheet(d, &ran.lines)).is_ok(), "the quiet table's sheet fails", &inputs);
         }
         other
+    }
+
+    /// The check of link records. What both say: the number of ASes.
+    pub fn check_links(&mut self, links: &[Link]) -> Result<usize, No> {
+        let inputs = format!("check of {links:?}");
+        let lent_links = links.to_vec();
+        let library = bostuvrel::check_links(&lent_links).map_err(no);
+        let other = Network::new(&as_second(links)).map(|net| net.ases.len());
+        self.agree(&library, &other, &inputs);
+        self.holds(lent_links == links, "lent memory is changed", &inputs);
+        library
+    }
+
+    /// The stable table of link records into so many words. What both say: the number of words written.
+    pub fn table(&mut self, links: &[Link], d: u32, words: usize) -> Result<usize, No> {
+        let inputs = format!("table to {d} into {words} words of {links:?}");
+        let (lent_links, before) = (links.to_vec(), pattern_words(words));
+        let mut lent = before.clone();
+        let library = bostuvrel::stable_table_into(&lent_links, d, &mut lent).map_err(no);
+        let other = second::table(&as_second(links), d, words).map(|lines| table_words(&lines));
+        self.agree(&library, &other.as_ref().map(Vec::len).map_err(|refused| *refused), &inputs);
+        let due = other.unwrap_or_default();
+        self.holds(lent[..due.len()] == due, "the tables differ", &inputs);
+        self.holds(lent[due.len()..] == before[due.len()..] && lent_links == links, "lent memory is changed", &inputs);
+        library
     }
 
     /// The package's own reading of a sheet, against the second program's; and its walks, which must end.

@@ -8,6 +8,7 @@
 mod compare;
 mod files;
 mod limits;
+mod links;
 mod machine;
 mod networks;
 mod orders;
@@ -30,9 +31,10 @@ mod least {
     pub const TEXTS: usize = 30_000;
     pub const SHEETS: usize = 40_000;
     pub const MACHINE: usize = 12_000;
+    pub const LINKS: usize = 20_000;
     pub const LIMITS: usize = 60;
     pub const ORDERS: usize = 40;
-    pub const IN_ALL: usize = NETWORKS + TEXTS + SHEETS + MACHINE + LIMITS + ORDERS;
+    pub const IN_ALL: usize = NETWORKS + TEXTS + SHEETS + MACHINE + LINKS + LIMITS + ORDERS;
     const _: () = assert!(IN_ALL >= 20_000);
 }
 

@@ -1,7 +1,7 @@
 //! Two faults at once: the order of refusals at each entry. Together the cases meet every number that an entry can give.
 use crate::compare::Compare;
 use crate::second::No;
-use crate::{least, A};
+use crate::{least, links, A};
 
 const BYTES: usize = bostuvrel::LONGEST_SHEET;
 
@@ -103,8 +103,8 @@ fn of_a_loop(compare: &mut Compare) {
     compare.decode(&bytes);
 }
 
-/// Number 3 cannot be met: a text gives the relations 0 and 1 only. Of number 8 the place 1 cannot: the working room is the library's
-/// own. At a sheet 10 to 13 cannot be met, since its table is the library's own; at the judge 8 and 13 cannot, since it writes nothing
+/// Number 3 is met by link records alone: a text gives the relations 0 and 1 only. Of number 8 the place 1 cannot be met: the working
+/// room is the library's own. At records 9 to 13 cannot be met, since they are no text and no sheet and there are no choices. At a sheet 10 to 13 cannot be met, since its table is the library's own; at the judge 8 and 13 cannot, since it writes nothing
 /// and takes no choices; at findings 7, 8 and 10 to 13 cannot, for both reasons; at a run 10 to 12 cannot.
 #[test]
 fn every_refusal_in_its_order() {
@@ -113,6 +113,7 @@ fn every_refusal_in_its_order() {
     of_sheets_and_runs(&mut compare);
     of_judgements(&mut compare);
     of_a_loop(&mut compare);
+    links::orders(&mut compare);
     compare.done(least::ORDERS);
-    assert!(compare.seen.into_iter().eq([1, 2, 4, 5, 6, 7, 8, 9, 10, 11, 12, 13]));
+    assert!(compare.seen.into_iter().eq(1..=13));
 }

@@ -1,8 +1,7 @@
--- The check's answer is the first part of the fault, the room's the second, by `entry-accepted` and `entry-refused`.
+-- `findings::find` meets its contract: a refusal of the links is the whole reply (`entry-refused`), and else that for accepted ones is.
 use mathlib.Core.Path.{_∙_, sym}
-use native.Mathlib.Omega.{arith}
 use Rattle.rules.specs.Checks.{baseLimits}
-use Rattle.findings.proofs.EntryLaws.{base-counted, entry-accepted, entry-refused}
+use Rattle.findings.proofs.EntryLaws.{entry-refused}
 use borrow.Author.Needs.{needs}
 use Rattle.findings.proofs.find.Statement.{statement}
 use Rattle.findings.proofs.find.Tie as tie
@@ -10,51 +9,36 @@ use Rattle.findings.proofs.find.Tie as tie
 check-links-requires : tie.Need-check-links-requires
 check-links-requires c κs = search needs
 
-enum-known-checked : tie.Need-enum-known-checked
-enum-known-checked c = search needs
+enum-known-n : tie.Need-enum-known-n
+enum-known-n c = search needs
 
-slice-aggregate-find-with : tie.Need-slice-aggregate-find-with
-slice-aggregate-find-with c = search needs
+find-accepted-requires : tie.Need-find-accepted-requires
+find-accepted-requires c κs = (let n = c .before .before in sym (n .before .before .check-links .ensures) ∙ n .n .given .1)
 
-find-with-requires : tie.Need-find-with-requires
-find-with-requires c κs =
-    let at-checked = c .before .before .before in
-    let at-check-links = at-checked .before .before in
-    let start = at-check-links .before .before .before in
-    let accepted = sym (at-check-links .check-links .ensures) ∙ at-checked .checked .given .1 in
-    base-counted (start .args .words .now) accepted (omega arith)
-
-enum-known-checked-2 : tie.Need-enum-known-checked-2
-enum-known-checked-2 c = search needs
+enum-known-why : tie.Need-enum-known-why
+enum-known-why c = search needs
 
 same-length : tie.Need-same-length
 same-length c = search needs
 
 returns : tie.Need-returns
-returns c =
-    let at-find-with = c .before .before .before in
-    let at-checked = at-find-with .before .before .before .before in
-    let at-check-links = at-checked .before .before in
-    let start = at-check-links .before .before .before in
-    let accepted = sym (at-check-links .check-links .ensures) ∙ at-checked .checked .given .1 in
-    entry-accepted baseLimits (start .args .words .now) (start .args .room .now) accepted (at-find-with .find-with .ensures)
+returns c = search needs
 
 returns-2 : tie.Need-returns-2
 returns-2 c =
-    let at-check-links = c .before .before .before in
-    let start = at-check-links .before .before .before in
-    let refused = sym (at-check-links .check-links .ensures) ∙ c .before .checked2 .given .1 in
-    entry-refused baseLimits (start .args .words .now) (start .args .room .now) refused
+    let why = c .before in
+    let call = why .before .before in
+    let start = call .before .before .before in
+    entry-refused baseLimits (start .args .words .now) (start .args .room .now) (sym (call .check-links .ensures) ∙ why .why .given .1)
 
 pub find-spec : {M : Type 1} → statement M
 find-spec =
     tie.close
     (tie.spec
     check-links-requires
-    enum-known-checked
-    slice-aggregate-find-with
-    find-with-requires
-    enum-known-checked-2
+    enum-known-n
+    find-accepted-requires
+    enum-known-why
     same-length
     returns
     returns-2)

@@ -56,11 +56,11 @@ use Rattle.rules.specs.declared.Link.{Link}
 use Rattle.records.proofs.Parts.{small, next-fits, index-fits, three-fit, is-last, is-less, is-next, noLink, part, part-zero, part-length, part-suc, part-all}
 use Rattle.rules.proofs.Link as T
 use Rattle.rules.proofs.Link.Laws as T′
-use Rattle.linktext.specs.Scratch.{withLink}
-use Rattle.records.proofs.put_link as put
-use Rattle.records.proofs.put_link.Symbol as put-def
-use Rattle.records.proofs.put_link.Symbol.{name as #records·put-link}
-use Rattle.records.proofs.put_link.Met as put-thm
+use Rattle.network.specs.Promises.{withLink}
+use Rattle.network.proofs.put_link as put
+use Rattle.network.proofs.put_link.Symbol as put-def
+use Rattle.network.proofs.put_link.Symbol.{name as #network·put-link}
+use Rattle.network.proofs.put_link.Met as put-thm
 use Rattle.records.proofs.to_words.Key.{name as #records·to-words}
 use Rattle.records.proofs.to_words as to
 use Rattle.records.proofs.to_words.Statement as stated
@@ -166,7 +166,7 @@ module _ {M : Type 1} (𝓤 : URA M) (H : Heap 𝓤) (A : Atoms 𝓤) (W : Given
       -- [i's; the token; the words; the link]
       nothing ! $ move ! (2 ∷ 0 ∷ []) $ join ! $ frame ! $ nothing ! $ move ! (3 ∷ 0 ∷ []) $ fjoin ! $ move ! (1 ∷ 0 ∷ []) $ fjoin ! $ move ! (1 ∷ 0 ∷ []) $ fjoin ! $ done !
 
-  module _ (𝓣 : Tables 𝓤 H) (known : Triple 𝓤 (𝓣 .C #records·put-link) Put) (r : Share) (l₀ l₁ l₂ l₃ l₄ l₅ l₆ l₇ l₈ l₉ l₁₀ : ℕ) where
+  module _ (𝓣 : Tables 𝓤 H) (known : Triple 𝓤 (𝓣 .C #network·put-link) Put) (r : Share) (l₀ l₁ l₂ l₃ l₄ l₅ l₆ l₇ l₈ l₉ l₁₀ : ℕ) where
     abbrev C : Calls 𝓤 H
     C = 𝓣 .C
 
@@ -266,7 +266,7 @@ module _ {M : Type 1} (𝓤 : URA M) (H : Heap 𝓤) (A : Atoms 𝓤) (W : Given
     loops = via 𝓤 (Inv n) (inv n 0 (omega arith)) (loop-rule 𝓤 H (W .laws) 𝓣 _<_ (Nat·lt-wfRel .wf) En turn Left Inv turns n)
 
   -- the MIR, up to the loop
-  walk : (𝓣 : Tables 𝓤 H) → Triple 𝓤 (𝓣 .C #records·put-link) Put → ent 𝓤 (onEntry 𝓤 H A to.signature (κ, (κ′, tt)) (q, (q′, tt)) a vals) (WpFn 𝓤 H (𝓣 .C) (𝓣 .Λ) code.function (s ∷ s′ ∷ []) Post)
+  walk : (𝓣 : Tables 𝓤 H) → Triple 𝓤 (𝓣 .C #network·put-link) Put → ent 𝓤 (onEntry 𝓤 H A to.signature (κ, (κ′, tt)) (q, (q′, tt)) a vals) (WpFn 𝓤 H (𝓣 .C) (𝓣 .Λ) code.function (s ∷ s′ ∷ []) Post)
   walk 𝓣 known =
       qed W ((‵ (flft κ q) ⊛ ‵ (flft κ′ q′) ⊛ ‵ ftrue) ∷ ‵ (owns (ShrSlice (named 0) κ T.the-row ∷ MutSlice (named 1) κ′ u32 ∷ []) a vals) ∷ []) ∵ enter ! (𝓣 .C) (𝓣 .Λ) code.function (s ∷ s′ ∷ []) _ $
       alloc1 ! (λ l₀. alloc1 ! (λ l₁. alloc1 ! (λ l₂. alloc1 ! (λ l₃. alloc1 ! (λ l₄. alloc1 ! (λ l₅. alloc1 ! (λ l₆. alloc1 ! (λ l₇. alloc1 ! (λ l₈. alloc1 ! (λ l₉. alloc1 ! (λ l₁₀. alloc0 ! $ params1 ! $
@@ -279,7 +279,7 @@ module _ {M : Type 1} (𝓤 : URA M) (H : Heap 𝓤) (A : Atoms 𝓤) (W : Given
       -- [the words; their open borrow; obs; auth; true; true; the links; their open borrow; the fractured borrow; _10; …; _0; …]
       keep ! (0 ∷ 23 ∷ 21 ∷ 19 ∷ 17 ∷ 15 ∷ 13 ∷ 11 ∷ 9 ∷ 6 ∷ 27 ∷ 25 ∷ 29 ∷ 7 ∷ 1 ∷ 2 ∷ 3 ∷ 30 ∷ 28 ∷ 26 ∷ 24 ∷ 22 ∷ 20 ∷ 18 ∷ 16 ∷ 14 ∷ 12 ∷ 10 ∷ []) $ by ! (loops 𝓣 known r l₀ l₁ l₂ l₃ l₄ l₅ l₆ l₇ l₈ l₉ l₁₀)))))))))))))
 
-module _ {M : Type 1} (𝓤 : URA M) (H : Heap 𝓤) (A : Atoms 𝓤) (W : Given 𝓤 H A) (mem : Memory → SProp 𝓤) (run : Routine → Fun 𝓤) (𝓣 : Tables 𝓤 H) (known : Triple 𝓤 (𝓣 .C #records·put-link) (tripleOf 𝓤 H A put.signature (put.spec 𝓤 H A mem run))) where
+module _ {M : Type 1} (𝓤 : URA M) (H : Heap 𝓤) (A : Atoms 𝓤) (W : Given 𝓤 H A) (mem : Memory → SProp 𝓤) (run : Routine → Fun 𝓤) (𝓣 : Tables 𝓤 H) (known : Triple 𝓤 (𝓣 .C #network·put-link) (tripleOf 𝓤 H A put.signature (put.spec 𝓤 H A mem run))) where
   to-walks : Walks 𝓤 H A to.ended stayed (WpFn 𝓤 H (𝓣 .C) (𝓣 .Λ) code.function) (to.clauses 𝓤 H A mem run)
   to-walks = walked 𝓤 H A to.ended stayed (to.clauses 𝓤 H A mem run) (WpFn 𝓤 H (𝓣 .C) (𝓣 .Λ) code.function) (λ κs. (slice-vals, (slice-vals, tt))) (λ κs. (shr-slice-tells (named 0) (κs .0) T.the-row, (mut-slice-tells (named 1) (κs .1 .0) u32, tt)))
       (λ κs qs bounds a g are. needs 𝓤 (3 * length (a .0 .now) ≤ length (a .1 .0 .now)) _ (λ fits.
@@ -294,4 +294,4 @@ to-words-spec 𝓤 H 𝓜 𝓖 𝓡 =
     entered 𝓤 H (tripleOf 𝓤 H (𝓖 .A) to.signature (to.spec 𝓤 H (𝓖 .A) (𝓜 .mem) (𝓡 .run)))
     (tables 𝓤 H 𝓜 𝓡 code.env .C) (tables 𝓤 H 𝓜 𝓡 code.env .Λ) #records·to-words code.function (code.unfolded 𝓤 H 𝓜 𝓡)
     (to-meets 𝓤 H (𝓖 .A) (givenOf 𝓤 H 𝓜 𝓖) (𝓜 .mem) (𝓡 .run) (tablesOf 𝓤 H 𝓜 (tables 𝓤 H 𝓜 𝓡 code.env))
-    (cited 𝓤 H (tripleOf 𝓤 H (𝓖 .A) put.signature (put.spec 𝓤 H (𝓖 .A) (𝓜 .mem) (𝓡 .run))) 𝓜 𝓡 code.env #records·put-link put-def.routine code.calls-records·put-link (put-thm.met 𝓤 H 𝓜 𝓖 𝓡)))
+    (cited 𝓤 H (tripleOf 𝓤 H (𝓖 .A) put.signature (put.spec 𝓤 H (𝓖 .A) (𝓜 .mem) (𝓡 .run))) 𝓜 𝓡 code.env #network·put-link put-def.routine code.calls-network·put-link (put-thm.met 𝓤 H 𝓜 𝓖 𝓡)))

@@ -1,6 +1,5 @@
 -- `bostuvrel_findings`: the words are those of the text's links, or the text is refused.
 use mathlib.Core.Path.{sym, _∙_}
-use native.Mathlib.Omega.{arith}
 use lib.Seq.{length-take-le}
 use Rattle.storefront.proofs.ReplyLaws.{found-given, found-unread}
 use borrow.Author.Needs.{needs}
@@ -13,20 +12,13 @@ slice-aggregate-read c = search needs
 read-requires : tie.Need-read-requires
 read-requires c κs = search needs
 
-enum-known-m : tie.Need-enum-known-m
-enum-known-m c = search needs
-
-mul-list : tie.Need-mul-list
-mul-list c =
-    let m = c .before in
-    let h = m .before .before .before .read .ensures .room _ (m .m .given .1) in
-    omega arith
+returns : tie.Need-returns
+returns c =
+    let u = c .before .before .before .read .ensures .unread (c .if1 .taken) in
+    u .packs ∙ found-unread _ _ (u .fault)
 
 array-share-prefix-list : tie.Need-array-share-prefix-list
-array-share-prefix-list c =
-    let m = c .before in
-    let h = m .before .before .before .read .ensures .room _ (m .m .given .1) in
-    omega arith
+array-share-prefix-list c = search needs
 
 slice-aggregate-find : tie.Need-slice-aggregate-find
 slice-aggregate-find c = sym (length-take-le _ _ (array-share-prefix-list (c .before)))
@@ -34,21 +26,10 @@ slice-aggregate-find c = sym (length-take-le _ _ (array-share-prefix-list (c .be
 find-requires : tie.Need-find-requires
 find-requires c κs = search needs
 
-enum-known-why : tie.Need-enum-known-why
-enum-known-why c = search needs
-
-refused-requires : tie.Need-refused-requires
-refused-requires c κs = (let w = c .before in w .before .before .before .read .ensures .placed _ (w .why .given .1))
-
-returns : tie.Need-returns
-returns c =
-    let m = c .before .before .before in
-    c .find .ensures ∙ found-given _ _ (m .before .before .before .read .ensures .given _ (m .m .given .1))
-
 returns-2 : tie.Need-returns-2
 returns-2 c =
-    let w = c .before .before in
-    c .refused .ensures ∙ found-unread _ _ (w .before .before .before .read .ensures .fault _ (w .why .given .1))
+    let e = c .before .before in
+    c .find .ensures ∙ found-given _ _ (e .before .before .before .read .ensures .given (e .if1 .left))
 
 pub bostuvrel-findings-spec : {M : Type 1} → statement M
 bostuvrel-findings-spec =
@@ -56,12 +37,8 @@ bostuvrel-findings-spec =
     (tie.spec
     slice-aggregate-read
     read-requires
-    enum-known-m
-    mul-list
+    returns
     array-share-prefix-list
     slice-aggregate-find
     find-requires
-    enum-known-why
-    refused-requires
-    returns
     returns-2)

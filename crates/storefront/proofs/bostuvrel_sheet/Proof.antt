@@ -1,6 +1,5 @@
 -- `bostuvrel_sheet`: the words are those of the text's links, or the text is refused.
 use mathlib.Core.Path.{sym}
-use native.Mathlib.Omega.{arith}
 use lib.Seq.{length-take-le}
 use Rattle.storefront.proofs.ReplyLaws.{sheet-given, sheet-unread}
 use borrow.Author.Needs.{needs}
@@ -13,20 +12,13 @@ slice-aggregate-read c = search needs
 read-requires : tie.Need-read-requires
 read-requires c κs = search needs
 
-enum-known-m : tie.Need-enum-known-m
-enum-known-m c = search needs
-
-mul-list : tie.Need-mul-list
-mul-list c =
-    let m = c .before in
-    let h = m .before .before .before .read .ensures .room _ (m .m .given .1) in
-    omega arith
+returns : tie.Need-returns
+returns c =
+    let u = c .before .before .before .read .ensures .unread (c .if1 .taken) in
+    sheet-unread _ _ (u .fault) _ _ (u .packs)
 
 array-share-prefix-list : tie.Need-array-share-prefix-list
-array-share-prefix-list c =
-    let m = c .before in
-    let h = m .before .before .before .read .ensures .room _ (m .m .given .1) in
-    omega arith
+array-share-prefix-list c = search needs
 
 slice-aggregate-make : tie.Need-slice-aggregate-make
 slice-aggregate-make c = sym (length-take-le _ _ (array-share-prefix-list (c .before)))
@@ -34,25 +26,13 @@ slice-aggregate-make c = sym (length-take-le _ _ (array-share-prefix-list (c .be
 make-requires : tie.Need-make-requires
 make-requires c κs = search needs
 
-enum-known-why : tie.Need-enum-known-why
-enum-known-why c = search needs
-
-refused-requires : tie.Need-refused-requires
-refused-requires c κs = (let w = c .before in w .before .before .before .read .ensures .placed _ (w .why .given .1))
-
 same-length : tie.Need-same-length
 same-length c = search needs
 
-returns : tie.Need-returns
-returns c =
-    let r = c .before .before in
-    let m = r .before .before .before .before in
-    sheet-given _ _ (m .before .before .before .read .ensures .given _ (m .m .given .1)) _ _ (r .make .ensures)
-
 returns-2 : tie.Need-returns-2
 returns-2 c =
-    let w = c .before .before in
-    sheet-unread _ _ (w .before .before .before .read .ensures .fault _ (w .why .given .1)) _ _ (c .refused .ensures)
+    let e = c .before .before .before .before .before in
+    sheet-given _ _ (e .before .before .before .read .ensures .given (e .if1 .left)) _ _ (c .before .before .make .ensures)
 
 pub bostuvrel-sheet-spec : {M : Type 1} → statement M
 bostuvrel-sheet-spec =
@@ -60,13 +40,9 @@ bostuvrel-sheet-spec =
     (tie.spec
     slice-aggregate-read
     read-requires
-    enum-known-m
-    mul-list
+    returns
     array-share-prefix-list
     slice-aggregate-make
     make-requires
-    enum-known-why
-    refused-requires
     same-length
-    returns
     returns-2)

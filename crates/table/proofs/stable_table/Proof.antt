@@ -1,22 +1,21 @@
--- `table::stable_table` meets its contract: the look gives the reply, and an input that passes has what the work asks.
-use native.Mathlib.Omega.{arith}
+-- `table::stable_table` meets its contract: a refusal of the links is the whole reply, and else the table of accepted links is.
+use mathlib.Core.Path.{sym, _∙_, ap}
+use mathlib.Core.List.{[]}
 use borrow.Author.Needs.{needs}
 use Rattle.rules.specs.Checks.{baseLimits}
-use Rattle.table.proofs.LookLaws.{looked-filling, tabled-refused, tabled-passes}
+use Rattle.rules.specs.Entry.{verdictOf}
+use Rattle.table.proofs.LookLaws.{looked-refused, tabled-refused}
 use Rattle.table.proofs.stable_table.Statement.{statement}
 use Rattle.table.proofs.stable_table.Tie as tie
 
-slice-aggregate-look : tie.Need-slice-aggregate-look
-slice-aggregate-look c = search needs
-
-look-requires : tie.Need-look-requires
-look-requires c κs = search needs
-
-enum-known-looked : tie.Need-enum-known-looked
-enum-known-looked c = search needs
+check-links-requires : tie.Need-check-links-requires
+check-links-requires c κs = search needs
 
 enum-told : tie.Need-enum-told
 enum-told c = search needs
+
+enum-told-2 : tie.Need-enum-told-2
+enum-told-2 c = search needs
 
 refused-requires : tie.Need-refused-requires
 refused-requires c κs = search needs
@@ -24,21 +23,15 @@ refused-requires c κs = search needs
 returns : tie.Need-returns
 returns c =
     let told = c .before in
-    let looking = told .before .before .before in
-    rw (c .refused .ensures) (tabled-refused baseLimits _ _ _ _ _ _ (looking .look .ensures) (told .enum-told .given .1))
+    let call = told .before .before in
+    rw (c .refused .ensures)
+    (tabled-refused baseLimits _ _ [] _ _ _ (looked-refused baseLimits _ _ [] _ _ _ _ (call .check-links .ensures) (told .enum-told2 .given .1))
+    (told .enum-told2 .given .1))
 
-slice-aggregate-fill : tie.Need-slice-aggregate-fill
-slice-aggregate-fill c = search needs
-
-slice-aggregate-fill-2 : tie.Need-slice-aggregate-fill-2
-slice-aggregate-fill-2 c = search needs
-
-fill-requires : tie.Need-fill-requires
-fill-requires c κs =
-    let told = c .before .before .before .before .before in
-    let looking = told .before .before .before in
-    let f = looked-filling baseLimits _ _ _ _ _ _ (looking .look .ensures) (omega arith) (told .looked .given .1) in
-    (f .0, omega (arith, f .1))
+accepted-table-requires : tie.Need-accepted-table-requires
+accepted-table-requires c κs =
+    let told = c .before .before in
+    ap verdictOf (sym (told .before .before .check-links .ensures) ∙ told .enum-told .given .1)
 
 same-length : tie.Need-same-length
 same-length c = search needs
@@ -47,25 +40,18 @@ same-length-2 : tie.Need-same-length-2
 same-length-2 c = search needs
 
 returns-2 : tie.Need-returns-2
-returns-2 c =
-    let filling = c .before .before .before .before .before in
-    let told = filling .before .before .before .before .before .before in
-    let looking = told .before .before .before in
-    tabled-passes baseLimits _ _ _ _ _ _ (looking .look .ensures) (told .looked .given .1) (filling .fill .ensures .0) (filling .fill .ensures .1)
+returns-2 c = search needs
 
 pub stable-table-spec : {M : Type 1} → statement M
 stable-table-spec =
     tie.close
     (tie.spec
-    slice-aggregate-look
-    look-requires
-    enum-known-looked
+    check-links-requires
     enum-told
+    enum-told-2
     refused-requires
     returns
-    slice-aggregate-fill
-    slice-aggregate-fill-2
-    fill-requires
+    accepted-table-requires
     same-length
     same-length-2
     returns-2)

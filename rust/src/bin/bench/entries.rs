@@ -2,7 +2,7 @@
 use crate::measure::{in_turn, Times};
 use crate::networks::Network;
 use crate::plain::{self, No};
-use crate::table_alone::{table_alone, ROOM};
+use bostuvrel::Link;
 use std::hint::black_box;
 
 /// An entry and the ratio to plain Rust that is aimed at.
@@ -39,14 +39,15 @@ impl Entry {
 
 const DELIVERIES: u32 = bostuvrel::MOST_DELIVERIES;
 
-/// A network with its sheet, its links as read, and what is lent to the library; plain Rust is lent copies. None is cleared between calls.
+/// A network with its sheet, its links as read, for both, and what is lent to the library; plain Rust is lent copies. None is cleared
+/// between calls.
 pub struct Bench<'a> {
     network: &'a Network,
+    records: Vec<Link>,
     links: Vec<plain::Link>,
     sheet: Vec<u8>,
     bytes: Vec<u8>,
     words: Vec<u32>,
-    room: Vec<u32>,
 }
 
 fn no(refusal: bostuvrel::Refusal) -> No {
@@ -57,12 +58,13 @@ impl Bench<'_> {
     pub fn new(network: &Network) -> Bench<'_> {
         let links = plain::read_text(&network.text).unwrap_or_else(|no| panic!("{}: refused {no:?}", network.name));
         let sheet = bostuvrel::sheet(&network.text, network.destination).unwrap_or_else(|no| panic!("{}: {no}", network.name));
+        let records = links.iter().map(|l| Link { a: l.a, b: l.b, relation: l.relation }).collect();
         let (bytes, words) = (vec![0; bostuvrel::LONGEST_SHEET], vec![0; bostuvrel::LONGEST_TABLE]);
-        Bench { network, links, sheet: sheet.into_bytes(), bytes, words, room: vec![0; ROOM] }
+        Bench { network, records, links, sheet: sheet.into_bytes(), bytes, words }
     }
 
     /// Asks that both give the same on this network: on its text, on texts cut short and with a byte changed, and on sheets so.
-    pub fn check(&mut self) {
+    pub fn check(&self) {
         let (text, d) = (&self.network.text, self.network.destination);
         self.check_text(text, d);
         self.check_run(text, d, DELIVERIES);
@@ -100,31 +102,26 @@ impl Bench<'_> {
         assert!(ours == theirs, "{name}: run's table");
     }
 
-    fn check_table(&mut self, d: u32) {
+    fn check_table(&self, d: u32) {
         let (mut ours, mut theirs) = (self.words.clone(), self.words.clone());
-        if let Some(reply) = table_alone(&self.links, d, &mut ours, &mut self.room) {
-            assert!(reply == plain::table(&self.links, d, &mut theirs) && ours == theirs, "{}: table", self.network.name);
-        }
+        let reply = bostuvrel::stable_table_into(&self.records, d, &mut ours).map(|_| ()).map_err(no);
+        assert!(reply == plain::table(&self.links, d, &mut theirs) && ours == theirs, "{}: table", self.network.name);
     }
 
-    /// Medians of an entry by both, or nothing where the archive does not export it.
-    pub fn time(&mut self, entry: Entry) -> Option<Times> {
+    /// Medians of an entry by both.
+    pub fn time(&mut self, entry: Entry) -> Times {
         let (text, d) = (&self.network.text[..], self.network.destination);
         let (mut bytes, mut words) = (self.bytes.clone(), self.words.clone());
         let (ours, theirs) = (&mut self.bytes, &mut self.words);
-        let room = &mut self.room;
-        Some(match entry {
+        match entry {
             Entry::Sheet => in_turn(
                 || _ = black_box(bostuvrel::sheet_into(black_box(text), d, ours)),
                 || _ = black_box(plain::sheet(black_box(text), d, &mut bytes)),
             ),
-            Entry::Table => {
-                let _ = table_alone(&self.links, d, &mut words, room)?;
-                in_turn(
-                    || _ = black_box(table_alone(black_box(&self.links), d, theirs, room)),
-                    || _ = black_box(plain::table(black_box(&self.links), d, &mut words)),
-                )
-            }
+            Entry::Table => in_turn(
+                || _ = black_box(bostuvrel::stable_table_into(black_box(&self.records), d, theirs)),
+                || _ = black_box(plain::table(black_box(&self.links), d, &mut words)),
+            ),
             Entry::Judge => in_turn(
                 || _ = black_box(bostuvrel::judge(black_box(text), &self.sheet)),
                 || _ = black_box(plain::judge(black_box(text), &self.sheet)),
@@ -137,6 +134,6 @@ impl Bench<'_> {
                 || _ = black_box(bostuvrel::run_into(black_box(text), d, &[], DELIVERIES, theirs)),
                 || _ = black_box(plain::run(black_box(text), d, &[], DELIVERIES, &mut words)),
             ),
-        })
+        }
     }
 }

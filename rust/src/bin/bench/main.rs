@@ -5,7 +5,6 @@ mod entries;
 mod measure;
 mod networks;
 mod report;
-mod table_alone;
 
 #[path = "../../../inputs/mod.rs"]
 mod inputs;
@@ -23,9 +22,7 @@ fn main() {
         let mut bench = Bench::new(network);
         bench.check();
         for entry in ENTRIES {
-            if let Some(times) = bench.time(entry) {
-                rows.push(Row { network: network.name, entry, times });
-            }
+            rows.push(Row { network: network.name, entry, times: bench.time(entry) });
         }
     }
     let (list, table) = (report::list(&networks), report::table(&rows));

@@ -11,14 +11,17 @@ Inv-loop places index state₀ place noted₀ state noted = length state ≡ len
 abbrev μ-loop : tie.MeasureT-loop
 μ-loop places index state₀ place noted₀ state noted = noted
 
-last-noted-requires : tie.Need-last-noted-requires Inv-loop μ-loop
-last-noted-requires c κs = search needs
+head-of-requires : tie.Need-head-of-requires Inv-loop μ-loop
+head-of-requires c κs = search needs
+
+at-requires : tie.Need-at-requires Inv-loop μ-loop
+at-requires c κs = search needs
 
 loop-holds : tie.Need-loop-holds Inv-loop μ-loop
 loop-holds c = search needs
 
-far-end-requires : tie.Need-far-end-requires Inv-loop μ-loop
-far-end-requires c κs = search needs
+provider-of-requires : tie.Need-provider-of-requires Inv-loop μ-loop
+provider-of-requires c κs = search needs
 
 free-requires : tie.Need-free-requires Inv-loop μ-loop
 free-requires c κs = search needs
@@ -44,9 +47,10 @@ free-providers-spec =
     (tie.spec
     Inv-loop
     μ-loop
-    last-noted-requires
+    head-of-requires
+    at-requires
     loop-holds
-    far-end-requires
+    provider-of-requires
     free-requires
     noted-before-requires
     loop-less

@@ -1,6 +1,6 @@
--- Two stores move the waiting pair (`two-puts`); then nothing more happens, at the destination, or the hearer elects anew.
+-- Two stores move the waiting pair (`two-puts`); then nothing more happens, at the destination, or the hearer's line is amended.
 use borrow.Author.Needs.{needs}
-use Rattle.machine.proofs.DeliverLaws.{two-puts, now-laid, now-flagged, hearer-in, deliver-home, deliver-anew}
+use Rattle.machine.proofs.DeliverLaws.{two-puts, may-amend, deliver-home, deliver-amended}
 use Rattle.machine.proofs.steps.deliver.Statement.{statement}
 use Rattle.machine.proofs.steps.deliver.Tie as tie
 
@@ -29,15 +29,15 @@ returns c =
     let now = two-puts (s .pre) (wait .waiting-at .ensures) (held .put-held .ensures) (put .put-waiting .ensures) in
     deliver-home (s .pre) _ now _ (way .way-at .ensures) (c .if1 .taken)
 
-elect-anew-requires : tie.Need-elect-anew-requires
-elect-anew-requires c κs =
+amend-requires : tie.Need-amend-requires
+amend-requires c κs =
     let way = c .before .before .before .before .before in
     let put = way .before .before .before .before in
     let held = put .before .before .before .before in
     let wait = held .before .before in
     let s = wait .before .before .before .before .before in
     let now = two-puts (s .pre) (wait .waiting-at .ensures) (held .put-held .ensures) (put .put-waiting .ensures) in
-    (now-laid (s .pre) _ now _ (way .way-at .ensures), now-flagged (s .pre) _ now _ (way .way-at .ensures), hearer-in (s .pre) _ now _ (way .way-at .ensures))
+    may-amend (s .pre) _ now _ (way .way-at .ensures)
 
 same-length-2 : tie.Need-same-length-2
 same-length-2 c = search needs
@@ -47,15 +47,15 @@ same-length-3 c = search needs
 
 returns-2 : tie.Need-returns-2
 returns-2 c =
-    let anew = c .before .before .before .before in
-    let test = anew .before .before .before .before in
+    let done = c .before .before .before .before in
+    let test = done .before .before .before .before in
     let way = test .before .before in
     let put = way .before .before .before .before in
     let held = put .before .before .before .before in
     let wait = held .before .before in
     let s = wait .before .before .before .before .before in
     let now = two-puts (s .pre) (wait .waiting-at .ensures) (held .put-held .ensures) (put .put-waiting .ensures) in
-    deliver-anew (s .pre) _ now _ (way .way-at .ensures) (test .if1 .left) (anew .elect-anew .ensures)
+    deliver-amended (s .pre) _ now _ (way .way-at .ensures) (test .if1 .left) (done .amend .ensures)
 
 pub deliver-spec : {M : Type 1} → statement M
 deliver-spec =
@@ -67,7 +67,7 @@ deliver-spec =
     way-at-requires
     same-length
     returns
-    elect-anew-requires
+    amend-requires
     same-length-2
     same-length-3
     returns-2)

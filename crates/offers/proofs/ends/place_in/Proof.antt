@@ -6,24 +6,20 @@ use Rattle.offers.proofs.EndLaws.{at-place}
 use Rattle.offers.proofs.ends.place_in.Statement.{statement}
 use Rattle.offers.proofs.ends.place_in.Tie as tie
 
-hint-at-requires : tie.Need-hint-at-requires
-hint-at-requires c κs = search needs
+slot-of-requires : tie.Need-slot-of-requires
+slot-of-requires c κs = search needs
 
-cast-at : tie.Need-cast-at
-cast-at c = search needs
+hinted-requires : tie.Need-hinted-requires
+hinted-requires c κs = search needs
 
-mul-if2 : tie.Need-mul-if2
-mul-if2 c = search needs
-
-shared-slice-read-if2 : tie.Need-shared-slice-read-if2
-shared-slice-read-if2 c = search needs
+stands-at-requires : tie.Need-stands-at-requires
+stands-at-requires c κs = search needs
 
 returns : tie.Need-returns
 returns c =
-    let met = c .before .before in
-    let found = met .before in
-    let hint = found .hint-at .result in
-    at-place (found .before .before .pre) {r = At hint} (met .if1 .taken, c .if2 .taken) refl .1
+    let looked = c .before in
+    let found = looked .before in
+    at-place (found .before .before .before .pre) {r = At (found .hinted .result)} (looked .stands-at .ensures (c .if1 .taken)) refl .1
 
 search-in-requires : tie.Need-search-in-requires
 search-in-requires c κs = search needs
@@ -35,10 +31,9 @@ pub place-in-spec : {M : Type 1} → statement M
 place-in-spec =
     tie.close
     (tie.spec
-    hint-at-requires
-    cast-at
-    mul-if2
-    shared-slice-read-if2
+    slot-of-requires
+    hinted-requires
+    stands-at-requires
     returns
     search-in-requires
     returns-2)

@@ -22,6 +22,12 @@ shared-slice-read-slot-of c = search needs
 slot-of-requires : tie.Need-slot-of-requires Inv-loop μ-loop
 slot-of-requires c κs = search needs
 
+free-slot-requires : tie.Need-free-slot-requires Inv-loop μ-loop
+free-slot-requires c κs = search needs
+
+add-hints : tie.Need-add-hints Inv-loop μ-loop
+add-hints c = search needs
+
 cast-hints : tie.Need-cast-hints Inv-loop μ-loop
 cast-hints c = search needs
 
@@ -53,6 +59,8 @@ put-hints-spec =
     mul-slot-of
     shared-slice-read-slot-of
     slot-of-requires
+    free-slot-requires
+    add-hints
     cast-hints
     mul-hints
     element-write-hints

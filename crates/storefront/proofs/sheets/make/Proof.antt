@@ -2,7 +2,8 @@
 use mathlib.Core.Path.{_≡_, sym, _∙_}
 use Rattle.rules.specs.declared.Checked.the-variants.{Refused}
 use Rattle.rules.specs.Checks.{baseLimits, checkWords}
-use Rattle.storefront.proofs.SheetLaws.{bad-links-placed, bad-links}
+use Rattle.storefront.proofs.TableLaws.{bad-links-placed}
+use Rattle.storefront.proofs.SheetLaws.{bad-links}
 use borrow.Author.Needs.{needs}
 use Rattle.storefront.proofs.sheets.make.Statement.{statement}
 use Rattle.storefront.proofs.sheets.make.Tie as tie

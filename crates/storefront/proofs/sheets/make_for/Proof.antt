@@ -6,6 +6,7 @@ use lib.ListN.{length, take}
 use lib.Seq.{length-take-le}
 use Rattle.rules.specs.Network.{linksOf, asesOf, arcsOf}
 use Rattle.rules.specs.Checks.{baseLimits}
+use Rattle.rules.specs.Entry.{verdictOf}
 use Rattle.rules.specs.Stable.{tableOf}
 use Rattle.rules.specs.Solve.{stableOf}
 use Rattle.rules.proofs.AcceptedLinks.{AcceptedLinks, checkWords-accepted}
@@ -34,7 +35,7 @@ slice-aggregate-tabulate : tie.Need-slice-aggregate-tabulate
 slice-aggregate-tabulate c = search needs
 
 tabulate-requires : tie.Need-tabulate-requires
-tabulate-requires c κs = search needs
+tabulate-requires c κs = ap verdictOf (c .before .before .before .pre)
 
 enum-told : tie.Need-enum-told
 enum-told c = search needs

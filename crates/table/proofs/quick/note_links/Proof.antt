@@ -7,10 +7,10 @@ use Rattle.table.proofs.quick.note_links.Statement.{statement}
 use Rattle.table.proofs.quick.note_links.Tie as tie
 
 abbrev Inv-loop : tie.InvT-loop
-Inv-loop words places index₀ m i₀ index i = (i ≤ m) × (length index ≡ length index₀)
+Inv-loop words places index₀ hearer m i₀ index i = (i ≤ m) × (length index ≡ length index₀)
 
 abbrev μ-loop : tie.MeasureT-loop
-μ-loop words places index₀ m i₀ index i = m - i
+μ-loop words places index₀ hearer m i₀ index i = m - i
 
 indexed-requires : tie.Need-indexed-requires Inv-loop μ-loop
 indexed-requires c κs = search needs

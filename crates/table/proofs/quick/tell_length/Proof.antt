@@ -8,14 +8,14 @@ use Rattle.table.proofs.quick.tell_length.Statement.{statement}
 use Rattle.table.proofs.quick.tell_length.Tie as tie
 
 abbrev Inv-loop : tie.InvT-loop
-Inv-loop places index table₀ shelf₀ l kind n left₀ table shelf left =
+Inv-loop places index table₀ shelf₀ l heads kind n left₀ table shelf left =
     Guessed n table₀ table × (length shelf ≡ length shelf₀)
 
 abbrev μ-loop : tie.MeasureT-loop
-μ-loop places index table₀ shelf₀ l kind n left₀ table shelf left = left
+μ-loop places index table₀ shelf₀ l heads kind n left₀ table shelf left = left
 
 loop-holds : tie.Need-loop-holds Inv-loop μ-loop
-loop-holds c = (guessed-none (c .before .before .before .before .pre), search needs)
+loop-holds c = (guessed-none (c .before .before .before .before .pre .0), search needs)
 
 pop-requires : tie.Need-pop-requires Inv-loop μ-loop
 pop-requires c κs = search needs
@@ -35,7 +35,7 @@ tell-from-requires : tie.Need-tell-from-requires Inv-loop μ-loop
 tell-from-requires c κs =
     let turn = c .before .before .before .before .before .before .before .before in
     let s = turn .before .before .before .before .before in
-    (guessing-on (s .pre) (turn .loop .inv .0), search needs)
+    (guessing-on (s .pre .0) (turn .loop .inv .0), search needs, s .pre .1)
 
 sub-left : tie.Need-sub-left Inv-loop μ-loop
 sub-left c = search needs

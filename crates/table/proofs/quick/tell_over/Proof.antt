@@ -8,28 +8,25 @@ use Rattle.table.proofs.quick.tell_over.Statement.{statement}
 use Rattle.table.proofs.quick.tell_over.Tie as tie
 
 abbrev Inv-loop : tie.InvT-loop
-Inv-loop places index table₀ shelf₀ teller pair n direction₀ table shelf direction =
+Inv-loop places index table₀ shelf₀ head hearer pair n direction₀ table shelf direction =
     Guessed n table₀ table × (length shelf ≡ length shelf₀)
 
 abbrev μ-loop : tie.MeasureT-loop
-μ-loop places index table₀ shelf₀ teller pair n direction₀ table shelf direction = direction
-
-last-noted-requires : tie.Need-last-noted-requires Inv-loop μ-loop
-last-noted-requires c κs = search needs
+μ-loop places index table₀ shelf₀ head hearer pair n direction₀ table shelf direction = direction
 
 at-requires : tie.Need-at-requires Inv-loop μ-loop
 at-requires c κs = search needs
 
 loop-holds : tie.Need-loop-holds Inv-loop μ-loop
-loop-holds c = (guessed-none (c .before .before .before .before .before .before .pre .0), search needs)
+loop-holds c = (guessed-none (c .before .before .before .before .before .pre .0), search needs)
 
-hearer-over-requires : tie.Need-hearer-over-requires Inv-loop μ-loop
-hearer-over-requires c κs = search needs
+place-of-requires : tie.Need-place-of-requires Inv-loop μ-loop
+place-of-requires c κs = search needs
 
 tell-requires : tie.Need-tell-requires Inv-loop μ-loop
 tell-requires c κs =
     let turn = c .before .before .before .before in
-    let s = turn .before .before .before .before .before .before .before in
+    let s = turn .before .before .before .before .before .before in
     (guessing-on (s .pre .0) (turn .loop .inv .0), s .pre .1)
 
 noted-before-requires : tie.Need-noted-before-requires Inv-loop μ-loop
@@ -59,10 +56,9 @@ tell-over-spec =
     (tie.spec
     Inv-loop
     μ-loop
-    last-noted-requires
     at-requires
     loop-holds
-    hearer-over-requires
+    place-of-requires
     tell-requires
     noted-before-requires
     loop-less
