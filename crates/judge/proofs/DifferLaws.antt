@@ -14,7 +14,7 @@ use Rattle.rules.specs.Offers.{Arc}
 use Rattle.rules.specs.Stable.{Routing, due}
 use Rattle.rules.specs.Judge.{Entry, entriesOf, entriesFor, routingOf, sameLine, bestFrom, bestOffers}
 use Rattle.sheet.specs.Places.{entryAt}
-use Rattle.sheet.proofs.EntryLaws.{entries-next, entries-few}
+use Rattle.rules.proofs.EntryLaws.{entries-next, entries-few}
 use Rattle.judge.specs.Steps.{differFrom}
 
 -- from entry i on

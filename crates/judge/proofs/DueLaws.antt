@@ -21,7 +21,7 @@ use Rattle.offers.specs.Placing.{Placing, withPlaces}
 use Rattle.offers.specs.Electing.{Electing, withOffers}
 use Rattle.offers.proofs.PlaceLaws.{at-in, places-length}
 use Rattle.offers.proofs.TableLaws.{table-length, table-number, table-line, table-put}
-use Rattle.sheet.proofs.EntryLaws.{entries-words}
+use Rattle.rules.proofs.EntryLaws.{entries-words}
 use Rattle.judge.specs.Steps.{differFrom, Network, Told, withDue}
 use Rattle.judge.proofs.NetworkLaws.{distinct}
 use Rattle.judge.proofs.DifferLaws.{differ-best}

@@ -19,7 +19,7 @@ use Rattle.rules.proofs.LineLaws as lines
 use Rattle.rules.proofs.JudgeLaws.{test-passes, stands-is, standing-numbers}
 use Rattle.sheet.specs.Form.{lineCount, linesFrom, linesOf}
 use Rattle.sheet.specs.Places.{over}
-use Rattle.sheet.proofs.EntryLaws.{entries-words, length-words}
+use Rattle.rules.proofs.EntryLaws.{entries-words, length-words}
 use Rattle.sheet.proofs.FormLaws.{length-linesFrom}
 use Rattle.sheet.proofs.StandingLaws.{same-count, standing-shorter}
 use Rattle.judge.specs.Steps.{Told}

@@ -2,6 +2,7 @@ pub mod PlaceLaws
 pub mod NumberLaws
 pub mod FieldLaws
 pub mod ScratchLaws
+pub mod WordNetworks
 pub mod TurnLaws
 pub mod TextExamples
 pub mod DigitLaws
@@ -10,7 +11,6 @@ pub mod TextLaws
 pub mod RefusalPlaces
 pub mod RoundTrips
 pub mod StoreLaws
-pub mod WordLaws
 pub mod WriteLaws
 pub mod EntryLaws
 pub mod EntryTrips

@@ -2,7 +2,7 @@
 use rules::Link;
 
 pub mod line;
-pub mod quick;
+mod quick;
 pub mod reading;
 pub mod writing;
 

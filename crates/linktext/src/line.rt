@@ -48,7 +48,7 @@ pub fn find(s: &[u8], from: usize, byte: u8) -> usize
 }
 
 // `0` to `9`.
-pub fn is_digit(c: u8) -> bool
+pub(crate) fn is_digit(c: u8) -> bool
     ensures { λ r. ⌜ r ≡ isDigit c ⌝ }
 {
     (ZERO <= c) & (c <= NINE)
@@ -84,7 +84,7 @@ fn in_form(field: &[u8]) -> bool
     all_digits(field)
 }
 
-pub fn wide(x: u8) -> u64
+pub(crate) fn wide(x: u8) -> u64
     ensures { λ r. ⌜ r ≡ x ⌝ }
 {
     x as u64
@@ -204,7 +204,7 @@ fn read_first(line: &[u8]) -> LineRead
 }
 
 // A line, without its LF.
-pub fn read_line(line: &[u8]) -> LineRead
+pub(crate) fn read_line(line: &[u8]) -> LineRead
     ensures { λ r. ⌜ r ≡ readLine (now (line .entry)) ⌝ }
 {
     if line.len() == 0 {

@@ -1,81 +1,32 @@
--- The fresh start, store by store: an entry more of the fresh lines, a direction more without anything held or waiting, and then the
--- sending of the origin, which makes of table and room the definition's fresh start.
-use Prim.Native.Nat.{ℕ, suc, _+_, _*_, _≤_, _<_}
+-- The fresh start, store by store: a direction more without anything held or waiting, and then the sending of the origin, which makes of
+-- table and room the definition's fresh start.
+use Prim.Native.Nat.{ℕ, _+_, _*_, _≤_, _<_}
 use mathlib.Core.Path.{_≡_, refl, sym, _∙_, ap}
 use mathlib.Core.Logic.{_≢_}
-use mathlib.Core.List.{List, [], _∷_, _++_}
+use mathlib.Core.List.{List, _++_}
 use native.Mathlib.Omega.{arith}
-use native.Mathlib.Decide.{ℕ-discrete}
 use lib.ListN.{length, getD, set, take, drop, length-append, length-drop, length-take, length-set}
-use lib.Seq.{length-take-le, take-suc, take-at, getD-take, getD-set-same, getD-set-other}
+use lib.Seq.{take-at, getD-take, getD-set-same, getD-set-other}
 use borrow.Author.Count.{below-more}
-use Rattle.rules.specs.declared.TypeLength.{TypeLength}
 use Rattle.rules.specs.Pairs.{originOf, unreachableOf}
 use Rattle.rules.specs.Network.{linksOf, asesOf}
-use Rattle.rules.specs.Stable.{Line, own, lost, tableOf}
+use Rattle.rules.specs.Stable.{tableOf}
 use Rattle.rules.specs.Machine.{nothing, fresh, started}
-use Rattle.rules.proofs.Tests.{changed-same, changed-other}
 use Rattle.rules.proofs.ArcLaws.{direction-unique}
 use Rattle.rules.proofs.MachineLaws.{fresh-sound}
 use Rattle.rules.proofs.MachineCounts.{fresh-short}
-use Rattle.offers.specs.Lines.{putLine}
+use Rattle.offers.specs.Lines.{freshLines}
 use Rattle.offers.specs.Ways.{placesOf}
 use Rattle.offers.specs.Steps.{Placed}
 use Rattle.offers.specs.Placing.{withPlaces}
 use Rattle.offers.proofs.PlaceLaws.{places-length}
 use Rattle.offers.proofs.WayLaws.{way-arc}
-use Rattle.offers.proofs.FillLaws.{fill-four}
-use Rattle.offers.proofs.TableLaws.{table-length, table-append, table-one, table-number}
+use Rattle.offers.proofs.TableLaws.{table-length, table-number}
 use Rattle.machine.specs.Room.{pairWord, pairOf, waitOf, heldAt, waitAt, netOf, asesIn, asAt, Flagged, Laid}
 use Rattle.machine.specs.Steps.{Sending, Sent}
 use Rattle.machine.specs.Index.{Indexing, IndexLaid}
-use Rattle.machine.specs.Start.{freshLines, Blank, Readying, Ready, Starting, Started}
+use Rattle.machine.specs.Start.{Blank, Readying, Ready, Starting, Started}
 use Rattle.machine.proofs.StateLaws.{placed-same, laid-room, sent-waiting}
-
--- Lines -----------------------------------------------------------------------------------------------------------------------
-
-pub first-own : (d u : ℕ) → u ≡ d → originOf ≡ freshLines d u .pair
-unfolding own
-first-own d u e = ap (λ (l : Line). l .pair) (sym (changed-same lost d (own d) u e))
-
-pub first-other : (d u : ℕ) → u ≢ d → unreachableOf ≡ freshLines d u .pair
-unfolding lost
-first-other d u ne = ap (λ (l : Line). l .pair) (sym (changed-other lost d (own d) u ne))
-
--- every AS is its own next hop
-fresh-next : (d u : ℕ) → freshLines d u .next ≡ u
-unfolding own lost
-fresh-next d u = go (ℕ-discrete u d)
-  where
-    go : Dec (u ≡ d) → freshLines d u .next ≡ u
-    go (yes e) = ap (λ (l : Line). l .next) (changed-same lost d (own d) u e) ∙ sym e
-    go (no ne) = ap (λ (l : Line). l .next) (changed-other lost d (own d) u ne)
-
--- new is old with the lines of the first i ASes of a list in front
-pub record LinesTo (d : ℕ) (list : List ℕ) (i : ℕ) (old new : List ℕ) : Type 0 where
-  pub words : new ≡ tableOf (freshLines d) (take i list) ++ drop (4 * i) old
-
-pub lines-none : (d : ℕ) (list old : List ℕ) → LinesTo d list 0 old old
-unfolding tableOf
-lines-none d list old = record { words = refl }
-
-module _ {d : ℕ} {list : List ℕ} {i : ℕ} {old new : List ℕ} (e : LinesTo d list i old new) where
-  lines-front : i ≤ length list → length (tableOf (freshLines d) (take i list)) ≡ 4 * i
-  lines-front h = table-length (freshLines d) (take i list) ∙ ap (λ (n : ℕ). 4 * n) (length-take-le i list h)
-
-  pub lines-more : i < length list → 4 * i + 4 ≤ length old → (u : ℕ) (p : TypeLength) → u ≡ getD list i 0 → p ≡ freshLines d u .pair
-      → LinesTo d list (i + 1) old (putLine (set new (4 * i) u) i (record { pair = p; next = u }))
-  lines-more h g u p is f =
-      let R = freshLines d in
-      let x = getD list i 0 in
-      let one : suc i ≡ i + 1 = omega arith in
-      let four : 4 * suc i ≡ 4 * i + 4 = omega arith in
-      record {
-        words =
-            ap (λ (b : List ℕ). putLine (set b (4 * i) u) i (record { pair = p; next = u })) (e .words)
-            ∙ fill-four (tableOf R (take i list)) old (4 * i) (lines-front (omega arith)) u (p .typ) (p .length) u g
-            ∙ rw (← one, four, take-suc list i 0 h, table-append R (take i list) (x ∷ []), table-one R x, fresh-next d x, f, is);
-      }
 
 -- Directions -------------------------------------------------------------------------------------------------------------------
 

@@ -1,6 +1,5 @@
 -- What the fresh start asks and says.
 --
---   freshLines d       the lines of the fresh start: the destination's own, every other AS unreachable
 --   Blank m j r r′     r′ is r with nothing but unreachable held, and nothing waiting, on its first j directions
 --   Readying, Ready    the room of m links before and after: places, index, nothing but unreachable held, and nothing waiting
 --   Starting           the ASes of m links in a list, the destination at a place among them, and memory for the machine
@@ -9,18 +8,13 @@ use Prim.Native.Nat.{ℕ, _+_, _*_, _≤_, _<_}
 use mathlib.Core.Path.{_≡_}
 use mathlib.Core.List.{List}
 use lib.ListN.{length, getD, take, drop}
-use Rattle.rules.specs.Lists.{changed}
 use Rattle.rules.specs.Pairs.{unreachableOf}
 use Rattle.rules.specs.Network.{linksOf, asesOf}
-use Rattle.rules.specs.Stable.{Routing, own, lost}
 use Rattle.rules.specs.Machine.{started}
 use Rattle.offers.specs.Steps.{Placed}
 use Rattle.offers.specs.Placing.{Placing}
 use Rattle.machine.specs.Room.{pairWord, heldAt, waitAt, netOf, asesIn, asAt, Flagged, Indexed, Laid}
 use Rattle.machine.specs.Runs.{noCounts, Reached}
-
-abbrev pub freshLines : ℕ → Routing
-freshLines d = changed lost d (own d)
 
 pub record Blank (m j : ℕ) (r r′ : List ℕ) : Type 0 where
   pub long : length r′ ≡ length r

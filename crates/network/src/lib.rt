@@ -48,7 +48,12 @@ pub fn put_link(words: &mut [u32], i: usize, l: Link)
 
 // The check of a list of link words within given limits. The two tables are the caller's scratch memory, zero at entry: what stands
 // in them afterwards is not said, only that their lengths stay.
-pub fn check_with(words: &[u32], limits: Limits, seats: &mut [u32], pairs: &mut [u32]) -> Checked
+pub(crate) fn check_with(
+    words: &[u32],
+    limits: Limits,
+    seats: &mut [u32],
+    pairs: &mut [u32],
+) -> Checked
     requires { ⌜ Fresh limits (now seats) (now pairs) ⌝ }
     ensures reply { λ r. ⌜ r ≡ checkWords limits (now (words .entry)) ⌝ }
     ensures lengths { λ _. ⌜ (length (now (seats .exit)) ≡ length (now (seats .entry))) × (length (now (pairs .exit)) ≡ length (now (pairs .entry))) ⌝ }

@@ -4,6 +4,7 @@ pub mod WayLaws
 pub mod FillLaws
 pub mod EndLaws
 pub mod TableLaws
+pub mod FreshLaws
 pub mod ElectLaws
 pub mod PassLaws
 pub mod HearLaws

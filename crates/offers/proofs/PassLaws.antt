@@ -1,23 +1,23 @@
 -- The pass: entries without offers one after the other, then one direction after the other. After k directions entry i is the best
 -- offer to AS i over the first k arcs; direction k changes the entry of its hearer alone.
 --
---   NoneAt t i old new     new is old with the first i ASes of t in front, none of which has an offer
 --   HeardAt ls t k old new   new is old with the best offers over the first k directions in front
 use Prim.Native.Nat.{ℕ, zero, suc, _+_, _*_, _≤_, _<_}
 use mathlib.Core.Path.{_≡_, refl, sym, _∙_, ap}
-use mathlib.Core.List.{List, [], _∷_, _++_}
+use mathlib.Core.List.{List, _++_}
 use native.Mathlib.Omega.{arith}
 use lib.ListN.{length, getD, take, drop, length-append, length-drop}
 use lib.Seq.{take-suc, take-at, drop-at, take-all}
 use Rattle.rules.specs.declared.Link.{Link}
+use Rattle.rules.specs.Pairs.{unreachableOf}
 use Rattle.rules.specs.Offers.{Arc, none, elect, best}
 use Rattle.rules.specs.Network.{asesOf, arcsOf}
 use Rattle.rules.specs.Stable.{lost, lineOf, told, tableOf}
 use Rattle.rules.proofs.ArcLaws.{arcs-length}
-use Rattle.offers.specs.Lines.{numberAt, printed}
-use Rattle.offers.specs.Electing.{numbersOf, putNone, bestAfter, withHeard, withOffers, Electing, Hearing}
-use Rattle.offers.proofs.FillLaws.{fill-four}
-use Rattle.offers.proofs.TableLaws.{table-length, table-append, table-one, table-same}
+use Rattle.offers.specs.Lines.{numberAt, putEntry, printed}
+use Rattle.offers.specs.Electing.{numbersOf, bestAfter, withHeard, withOffers, Electing, Hearing}
+use Rattle.offers.proofs.TableLaws.{table-length, table-same}
+use Rattle.offers.proofs.FreshLaws.{LaidTo, laid-none, laid-rest, laid-more}
 
 -- Entries without offers --------------------------------------------------------------------------------------------------
 
@@ -33,31 +33,16 @@ numbers-are us t zero h same = refl
 numbers-are us t (suc n) h same =
     rw (numbers-are us t n (omega arith) (λ i g. same i (omega arith)), same n (omega arith)) (sym (take-suc us n 0 h))
 
-pub record NoneAt (t : List ℕ) (i : ℕ) (old new : List ℕ) : Type 0 where
-  pub words : new ≡ tableOf lost (numbersOf i t) ++ drop (4 * i) old
+pub none-at : (t old : List ℕ) → LaidTo lost (numbersOf 0 t) 0 old old
+unfolding numbersOf
+none-at t old = laid-none lost old
 
-pub none-at : (t old : List ℕ) → NoneAt t 0 old old
-unfolding tableOf numbersOf
-none-at t old = record { words = refl }
-
-module _ {t : List ℕ} {i : ℕ} {old new : List ℕ} (e : NoneAt t i old new) where
-  none-length : length (tableOf lost (numbersOf i t)) ≡ 4 * i
-  none-length = table-length lost (numbersOf i t) ∙ ap (λ (n : ℕ). 4 * n) (numbers-length i t)
-
-  pub none-long : 4 * i ≤ length old → length new ≡ length old
-  none-long h = omega (arith, simp (length-append, length-drop) at (ap length (e .words)), none-length)
-
-  pub none-more : 4 * i + 4 ≤ length old → (u : ℕ) → u ≡ numberAt t i → NoneAt t (i + 1) old (putNone new i u)
-  unfolding numbersOf lost
-  none-more h u is =
-      let f : suc i ≡ i + 1 = omega arith in
-      let g : 4 * suc i ≡ 4 * i + 4 = omega arith in
-      record {
-        words =
-            ap (λ (b : List ℕ). putNone b i u) (e .words)
-            ∙ fill-four (tableOf lost (numbersOf i t)) old (4 * i) none-length u 4 0 u h
-            ∙ rw (← f, g, table-append lost (numbersOf i t) (numberAt t i ∷ []), table-one lost (numberAt t i), is);
-      }
+pub none-more : (t : List ℕ) {i : ℕ} {old new : List ℕ} → LaidTo lost (numbersOf i t) i old new → 4 * i + 4 ≤ length old
+    → (u : ℕ) → u ≡ numberAt t i → LaidTo lost (numbersOf (i + 1) t) (i + 1) old (putEntry new i u (record { pair = unreachableOf; next = u }))
+unfolding numbersOf lost
+none-more t {i} e h u is =
+    let one : suc i ≡ i + 1 = omega arith in
+    rw (← one, ← is) (laid-more e h u)
 
 -- Directions ------------------------------------------------------------------------------------------------------------------
 
@@ -112,15 +97,16 @@ pub link-next : {ls : List Link} {t old new newer : List ℕ} (i : ℕ) → Hear
 link-next i e f = let two : 2 * i + 2 ≡ 2 * (i + 1) = omega arith in heard-next e (2 * (i + 1)) (rw two at f)
 
 -- before the first
-module _ {ls : List Link} {ps t : List ℕ} {n : ℕ} (w : Electing ls ps t n) {old new : List ℕ} (e : NoneAt t n old new) where
+module _ {ls : List Link} {ps t : List ℕ} {n : ℕ} (w : Electing ls ps t n) (old : List ℕ) {new : List ℕ}
+    (e : new ≡ tableOf lost (numbersOf n t) ++ drop (4 * n) old) where
   none-front : numbersOf n t ≡ asesOf ls
   none-front = numbers-are (asesOf ls) t n (omega (arith, w .count)) (w .numbers) ∙ take-all n (asesOf ls) (omega (arith, w .count))
 
   pub none-rest : drop (4 * n) new ≡ drop (4 * n) old
-  none-rest = ap (drop (4 * n)) (e .words) ∙ drop-at (tableOf lost (numbersOf n t)) (drop (4 * n) old) (4 * n) (none-length e)
+  none-rest = laid-rest (record { count = numbers-length n t; words = e })
 
   pub heard-none : HeardAt ls t 0 new new
   unfolding best elect none lost
   heard-none =
       let same = table-same lost (bestAfter ls t (length (asesOf ls)) 0) (asesOf ls) (λ i h. refl) in
-      record { words = e .words ∙ rw (none-front, same, ← none-rest, w .count) }
+      record { words = e ∙ rw (none-front, same, ← none-rest, w .count) }

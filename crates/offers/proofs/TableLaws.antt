@@ -1,11 +1,12 @@
 -- Tables by entry: entry i of a table is the line of AS i, a line that is put changes that line alone, and what a table with different
 -- ASes prints for AS i is its entry i. By induction along the ASes.
-use Prim.Native.Nat.{ℕ, zero, suc, _+_, _*_, _≤_, _<_}
+use Prim.Native.Nat.{ℕ, zero, suc, _+_, _-_, _*_, _≤_, _<_}
 use mathlib.Core.Path.{_≡_, refl, sym, _∙_, ap}
 use mathlib.Core.Logic.{_≢_}
 use mathlib.Core.List.{List, [], _∷_, _++_}
 use native.Mathlib.Omega.{arith}
-use lib.ListN.{length, getD, length-append}
+use lib.ListN.{length, getD, drop, length-append}
+use lib.Seq.{getD-append-add, getD-drop}
 use borrow.Author.Tests.{eq-eqb, ne-eqb}
 use Rattle.rules.specs.Lists.{In, Without, Distinct}
 use Rattle.rules.specs.Stable.{Line, Routing, lost, tableOf}
@@ -80,6 +81,15 @@ module _ (R : Routing) (rest : List ℕ) where
   table-put S (u ∷ us) d (suc i) h other =
       let e : S u ≡ R u = other u (without-at 0 u us (d .0) i (omega arith)) in
       put-next u _ _ _ (tableOf R us ++ rest) i (S (getD us i 0)) ∙ rw (e, table-put S us (d .1) i (omega arith) other)
+
+-- the words beyond the last entry
+pub table-beyond : (R : Routing) (us old : List ℕ) (w : ℕ) → 4 * length us ≤ w → getD (tableOf R us ++ drop (4 * length us) old) w 0 ≡ getD old w 0
+table-beyond R us old w h =
+    let k = w - 4 * length us in
+    let e : w ≡ length (tableOf R us) + k = omega (arith, table-length R us) in
+    let f : 4 * length us + k ≡ w = omega arith in
+    ap (λ (x : ℕ). getD (tableOf R us ++ drop (4 * length us) old) x 0) e ∙ getD-append-add (tableOf R us) (drop (4 * length us) old) k 0
+    ∙ getD-drop (4 * length us) old k 0 ∙ ap (λ (x : ℕ). getD old x 0) f
 
 -- What a table prints --------------------------------------------------------------------------------------------------------
 

@@ -3,7 +3,6 @@
 --   numbersOf n t      the ASes of the first n entries
 --   offerAt t i        the offer that entry i stands for
 --   keepBetter t i o   the table with the better of entry i's offer and o at entry i
---   putNone t i u      the table with AS u at entry i, which has no offer
 --   bestAfter ls t n k each AS's line as the best offer over the first k directions
 --   withHeard ls t k b the table b with these lines; withOffers ls t n b   with the best offers over all directions
 --   Electing ls ps t n what the pass asks: places of the links' ends, and a table of their ASes whose lengths leave room for one link more
@@ -12,11 +11,11 @@
 use Prim.Native.Nat.{ℕ, zero, suc, _+_, _*_, _≤_, _<_}
 use mathlib.Core.Path.{_≡_}
 use mathlib.Core.List.{List, [], _∷_, _++_}
-use lib.ListN.{length, getD, set, take, drop}
+use lib.ListN.{length, getD, take, drop}
 use Rattle.rules.specs.declared.Link.{Link}
 use Rattle.rules.specs.Offers.{choose, best}
 use Rattle.rules.specs.Network.{asesOf, arcsOf}
-use Rattle.rules.specs.Stable.{Routing, lost, lineOf, told, tableOf}
+use Rattle.rules.specs.Stable.{Routing, lineOf, told, tableOf}
 use Rattle.offers.specs.declared.Offered.{Offered}
 use Rattle.offers.specs.declared.Way.{Way}
 use Rattle.offers.specs.Lines.{numberAt, pairAt, nextAt, putLine, printed}
@@ -32,9 +31,6 @@ offerAt t i = offerOf (pairAt t i) (nextAt t i)
 
 abbrev pub keepBetter : List ℕ → ℕ → Offered → List ℕ
 keepBetter t i o = putLine t i (lineOf (choose (asOffer (offerAt t i)) (asOffer o)))
-
-abbrev pub putNone : List ℕ → ℕ → ℕ → List ℕ
-putNone t i u = putLine (set t (4 * i) u) i (lost u)
 
 abbrev pub bestAfter : List Link → List ℕ → ℕ → ℕ → Routing
 bestAfter ls t n k u = lineOf (best (told (printed n t)) u (take k (arcsOf ls)))

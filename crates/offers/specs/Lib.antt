@@ -4,3 +4,4 @@ pub mod Passes
 pub mod Steps
 pub mod Placing
 pub mod Electing
+pub mod Scratch

@@ -1,11 +1,13 @@
 // The one shared election: what is offered over a direction, the best offer so far, and the pass that finds every AS's best offer.
 ghost use Prim.Native.Nat.{_+_, _*_, _/_, _≤_, _<_};
 ghost use mathlib.Core.Path.{_≡_};
-ghost use lib.ListN.{length};
+ghost use mathlib.Core.List.{_++_};
+ghost use lib.ListN.{length, take, drop};
 ghost use Rattle.rules.specs.Offers.{better};
 ghost use Rattle.rules.specs.Network.{linksOf};
+ghost use Rattle.rules.specs.Stable.{tableOf};
 ghost use Rattle.network.specs.Promises.{HasLink};
-ghost use Rattle.offers.specs.Lines.{numberAt, pairAt, nextAt, putLine};
+ghost use Rattle.offers.specs.Lines.{numberAt, pairAt, nextAt, putLine, freshLines};
 ghost use Rattle.offers.specs.Ways.{partner, wayAt};
 ghost use Rattle.offers.specs.Placing.{Placing, withPlaces};
 ghost use Rattle.offers.specs.Passes.{asOffer};
@@ -15,6 +17,7 @@ use network::WORDS_PER_LINK;
 use rules::TypeLength;
 
 mod ends;
+mod fresh;
 mod pass;
 pub mod scratch;
 
@@ -87,6 +90,19 @@ pub fn put_line(t: &mut [u32], i: usize, pair: TypeLength, next: u32)
     t[at + 1] = pair.typ;
     t[at + 2] = pair.length;
     t[at + 3] = next;
+}
+
+// The lines of the first n ASes of a list before anything is told: the destination has its own, every other AS is unreachable.
+pub fn lay_fresh_lines(table: &mut [u32], list: &[u32], n: usize, destination: u32)
+    requires { ⌜ (4 * n ≤ length (now table)) × (n ≤ length (now list)) ⌝ }
+    ensures { λ _. ⌜ now (table .exit) ≡ tableOf (freshLines destination) (take n (now (list .entry))) ++ drop (4 * n) (now (table .entry)) ⌝ }
+{
+    let mut i = 0;
+    while i < n {
+        let number = list[i];
+        fresh::put_entry(table, i, number, fresh::first_pair(number, destination));
+        i += 1;
+    }
 }
 
 // Where the ends of the links stand among their ASes, which are the first n words of a list: two words per link, a's place and b's.

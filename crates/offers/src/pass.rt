@@ -9,20 +9,11 @@ ghost use Rattle.rules.specs.Network.{linksOf};
 ghost use Rattle.rules.specs.Stable.{lost, tableOf};
 ghost use Rattle.offers.specs.Lines.{typeAt};
 ghost use Rattle.offers.specs.Steps.{goesOn, toldOver, Telling};
-ghost use Rattle.offers.specs.Electing.{numbersOf, offerAt, putNone, keepBetter, withHeard, Hearer, Hearing};
+ghost use Rattle.offers.specs.Electing.{numbersOf, offerAt, keepBetter, withHeard, Hearer, Hearing};
 use crate::Offered;
-use crate::WORDS_PER_ENTRY;
 use crate::Way;
+use crate::fresh;
 use rules::TypeLength;
-
-// Entry i gets an AS that has no offer.
-pub fn put_none(t: &mut [u32], i: usize, number: u32)
-    requires { ⌜ 4 * i + 4 ≤ length (now t) ⌝ }
-    ensures { λ _. ⌜ now (t .exit) ≡ putNone (now (t .entry)) i number ⌝ }
-{
-    t[WORDS_PER_ENTRY * i] = number;
-    crate::put_line(t, i, TypeLength::UNREACHABLE, number);
-}
 
 // The first n entries get the ASes of another table, none of which has an offer.
 pub fn put_nones(told: &[u32], best: &mut [u32], n: usize)
@@ -31,7 +22,7 @@ pub fn put_nones(told: &[u32], best: &mut [u32], n: usize)
 {
     let mut i = 0;
     while i < n {
-        put_none(best, i, crate::number_at(told, i));
+        fresh::put_entry(best, i, crate::number_at(told, i), TypeLength::UNREACHABLE);
         i += 1;
     }
 }

@@ -3,6 +3,7 @@
 ghost use Prim.Native.Nat.{_+_, _*_, _≤_, _<_};
 ghost use mathlib.Core.Path.{_≡_};
 ghost use lib.ListN.{length, getD, set};
+ghost use Rattle.offers.specs.Scratch.{linksIndexed, notedBefore};
 use network::WORDS_PER_LINK;
 
 // The links of the longest list, and the ASes of the largest network: what scratch memory has words for.
@@ -31,7 +32,7 @@ pub fn put(s: &mut [u32], i: usize, value: u32)
 
 // The number of links, as far as an index has words for them.
 pub fn indexed(words: &[u32]) -> usize
-    ensures { λ r. ⌜ (r ≤ 1536) × (3 * r ≤ length (now (words .entry))) ⌝ }
+    ensures { λ r. ⌜ (r ≡ linksIndexed (now (words .entry))) × (r ≤ 1536) × (3 * r ≤ length (now (words .entry))) ⌝ }
 {
     let m = words.len() / WORDS_PER_LINK;
     if LINKS < m {
@@ -63,7 +64,7 @@ pub fn head_of(heads: usize, place: u32) -> usize
 // What was noted before: only a smaller one counts.
 pub fn noted_before(index: &[u32], noted: u32) -> u32
     requires { ⌜ 0 < noted ⌝ }
-    ensures { λ r. ⌜ r < noted ⌝ }
+    ensures { λ r. ⌜ (r < noted) × (r ≡ notedBefore (now (index .entry)) noted) ⌝ }
 {
     let before = at(index, (noted - 1) as usize);
     if before < noted {

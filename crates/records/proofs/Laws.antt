@@ -6,7 +6,7 @@ use mathlib.Core.Bool.{Bool, true, false, cond}
 use mathlib.Core.List.{List, [], _∷_, _++_, map}
 use lib.Dec.{leb}
 use lib.ListN.{length, take, drop}
-use lib.Seq.{take-at}
+use lib.Seq.{take-at, length-take-le}
 use borrow.Author.Tests.{le-leb, leb-true, leb-false}
 use Rattle.rules.specs.declared.Link.{Link}
 use Rattle.rules.specs.Network.{flat}
@@ -27,8 +27,15 @@ map-id [] = refl
 map-id (x ∷ xs) = ap (λ (zs : List ℕ). x ∷ zs) (map-id xs)
 
 -- the array in `Words` has its length: a proof has `Is` of a parameter w as `c .good`
-pub words-length : (w : Words) (vs : List Val) → Is S.the-row w vs → length (w .words) ≡ 4608
+words-length : (w : Words) (vs : List Val) → Is S.the-row w vs → length (w .words) ≡ 4608
 words-length w vs p = sym (ap (λ (xs : List ℕ). length xs) (map-id (w .words))) ∙ LL.owed S.the-type S′.the-laws w vs p .1 .0 .1 .0 .1
+
+-- .. so the words of few links are within, and as many are lent
+pub few-within : (w : Words) (vs : List Val) → Is S.the-row w vs → w .count ≤ 1536 → 3 * w .count ≤ length (w .words)
+few-within w vs p few = omega (arith, words-length w vs p)
+
+pub lent-length : (n : ℕ) (ws : List ℕ) → n ≤ length ws → n ≡ length (take n ws)
+lent-length n ws h = sym (length-take-le n ws h)
 
 -- few links, loaded: their words come first
 words-are : (ys : List Link) → length ys ≤ 1536 → take (3 * length ys) (loaded ys .words) ≡ flat ys

@@ -11,7 +11,7 @@ use rules::Checked;
 use rules::Link;
 
 // So many, but at most 16.
-pub fn at_most(n: usize) -> usize
+pub(crate) fn at_most(n: usize) -> usize
     ensures { λ r. ⌜ r ≡ cond (leb n 16) n 16 ⌝ }
 {
     if n <= 16 { n } else { 16 }

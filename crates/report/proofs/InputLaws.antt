@@ -5,7 +5,7 @@
 --   no-text, some-text the text's lines
 --   first-line, behind-first   the first line and what is behind it, by the place of the first LF
 --   no-number, a-number     the destination's line; too-long, not-too-long   the byte limit
-use Prim.Native.Nat.{ℕ, suc, _+_, _-_, _*_, _%_, _≤_, _<_}
+use Prim.Native.Nat.{ℕ, suc, _+_, _-_, _*_, _≤_, _<_}
 use mathlib.Core.Path.{_≡_, refl, sym, _∙_, ap}
 use mathlib.Core.Logic.{⊎-elim}
 use mathlib.Core.List.{List, [], _∷_}
@@ -14,7 +14,7 @@ use native.Mathlib.Numerals.{add-one}
 use lib.Dec.{eqb}
 use lib.ListN.{length, take, drop, length-drop, drop-of-length-le}
 use lib.Seq.{take-length}
-use borrow.Author.Tests.{le-leb, lt-leb, eq-eqb}
+use borrow.Author.Tests.{le-leb, lt-leb}
 use Rattle.rules.specs.declared.Link.{Link}
 use Rattle.rules.specs.declared.Refusal.{Refusal}
 use Rattle.rules.specs.declared.Refusal.the-variants.{OverLimit, Unreadable}
@@ -22,34 +22,33 @@ use Rattle.rules.specs.declared.Checked.{Checked}
 use Rattle.rules.specs.declared.Checked.the-variants as checked
 use Rattle.rules.specs.declared.Verdict.{Verdict}
 use Rattle.rules.specs.declared.Verdict.the-variants.{Refused}
-use Rattle.rules.specs.Network.{flat, linksOf, asesOf}
-use Rattle.rules.specs.Checks.{baseLimits, checkLinks, checkWords}
+use Rattle.rules.specs.Network.{linksOf, asesOf}
+use Rattle.rules.specs.Checks.{baseLimits, checkWords}
 use Rattle.rules.specs.Entry.{andThen, destinationFault}
 use Rattle.rules.proofs.Tests.{by-cond}
-use Rattle.rules.proofs.NetworkLaws.{linksOf-flat, flat-length}
 use Rattle.linktext.specs.declared.Numeral.{Numeral}
 use Rattle.linktext.specs.declared.Numeral.the-variants.{Value, NoForm, OverLarge}
 use Rattle.linktext.specs.Lines.{lf, numeralOf}
 use Rattle.linktext.specs.Fields.{placeOf}
 use Rattle.linktext.specs.Texts.{refused, textIn}
-use Rattle.linktext.specs.TextNetworks.{linksOfText, networkFault}
+use Rattle.linktext.specs.TextNetworks.{linksOfText}
 use Rattle.linktext.proofs.PlaceLaws.{place-le}
 use Rattle.linktext.proofs.FieldLaws.{NoValue}
 use Rattle.linktext.proofs.ScratchLaws.{Got}
+use Rattle.linktext.proofs.WordNetworks.{got-links, got-fault, lost-fault}
 use Rattle.report.specs.declared.Answer.{Answer}
 use Rattle.report.specs.declared.Answer.the-variants as answer
 use Rattle.report.specs.Report.{firstLine, afterFirst, numberFault, valueOf, destinationIn, linksBehind, reportFault}
 use Rattle.report.specs.Answers.{linkWordsFault, textFault, linesFault, BehindFirst, Counted, Worked}
 
-module _ (ls : List Link) (d : ℕ) (t r : List ℕ) where
-  pub refuses : {v : Verdict} {why : Refusal} → v ≡ Refused why → Worked ls d v t r (answer.Refused why) t r
-  refuses e = rw e (record { replies = refl; tabled = refl; zeroed = refl })
+pub refuses : {ls : List Link} {d : ℕ} {t r : List ℕ} {v : Verdict} {why : Refusal} → v ≡ Refused why → Worked ls d v t r (answer.Refused why) t r
+refuses e = rw e (record { replies = refl; tabled = refl; zeroed = refl })
 
 -- the check of the links ----------------------------------------------------------------------------------------------------
 
-module _ (ws : List ℕ) (d : ℕ) {c : Checked} (check : c ≡ checkWords baseLimits ws) where
-  pub bad-links : {why : Refusal} → c ≡ checked.Refused why → linkWordsFault ws d ≡ Refused why
-  bad-links e = rw (← check, e)
+module _ (ws : List ℕ) {c : Checked} (check : c ≡ checkWords baseLimits ws) where
+  pub bad-links : (d : ℕ) {why : Refusal} → c ≡ checked.Refused why → linkWordsFault ws d ≡ Refused why
+  bad-links d e = rw (← check, e)
 
   pub good-links : {n : ℕ} → c ≡ checked.Accepted n → Counted ws n
   good-links e = record { accepted = sym check ∙ e }
@@ -60,26 +59,12 @@ links-pass d ok = rw (ok .accepted)
 -- the text's lines ----------------------------------------------------------------------------------------------------------
 
 pub no-text : (t : List ℕ) (d : ℕ) {why : Refusal} → textIn baseLimits t ≡ refused why → textFault t d ≡ Refused why
-unfolding networkFault
-no-text t d e = rw e
+no-text t d e = rw (lost-fault baseLimits t e)
 
--- the words of links are whole links
-flat-check : (ls : List Link) → checkWords baseLimits (flat ls) ≡ checkLinks baseLimits ls
-unfolding checkWords
-flat-check ls = (let e = flat-length ls in rw (eq-eqb (length (flat ls) % 3) 0 (omega arith), linksOf-flat ls))
-
-module _ (t : List ℕ) (d : ℕ) {m : ℕ} {ws : List ℕ} (g : Got (textIn baseLimits t) m ws) where
-  words-links : linksOf (take (3 * m) ws) ≡ linksOfText baseLimits t
-  words-links = rw (g .words, g .whole) (linksOf-flat (g .list))
-
-  text-verdict : linkWordsFault (take (3 * m) ws) d ≡ textFault t d
-  unfolding networkFault
-  text-verdict = rw (g .words, g .whole, flat-check (g .list), linksOf-flat (g .list))
-
-  pub some-text : {u r : List ℕ} {a : Answer} {u′ r′ : List ℕ}
-      → Worked (linksOf (take (3 * m) ws)) d (linkWordsFault (take (3 * m) ws) d) u r a u′ r′
-      → Worked (linksOfText baseLimits t) d (textFault t d) u r a u′ r′
-  some-text w = rw (← text-verdict, ← words-links) w
+pub some-text : (t : List ℕ) (d : ℕ) {m : ℕ} {ws : List ℕ} → Got (textIn baseLimits t) m ws → {u r : List ℕ} {a : Answer} {u′ r′ : List ℕ}
+    → Worked (linksOf (take (3 * m) ws)) d (linkWordsFault (take (3 * m) ws) d) u r a u′ r′
+    → Worked (linksOfText baseLimits t) d (textFault t d) u r a u′ r′
+some-text t d g w = rw (← got-fault baseLimits t g, ← got-links baseLimits t g) w
 
 -- first line and text behind it -----------------------------------------------------------------------------------------------
 

@@ -99,13 +99,14 @@ pub tabled-room : {limits : Limits} {ws : List ℕ} {d : ℕ} {t r : List ℕ} {
     → Tabled limits ws d t r out t′ r′ → length r′ ≡ length r
 tabled-room {limits} {ws} {d} {t} {r} a = ap length (a .zeroed) ∙ cleared-length (tableFault limits ws d (length t) (length r)) r
 
-module _ {ws : List ℕ} {n d : ℕ} (ok : Accepted ws n d) (t r : List ℕ) (table : length t ≡ 2048) (room : length r ≡ 16384) where
+module _ {ws : List ℕ} {n d : ℕ} (ok : Accepted ws n d) {t r : List ℕ} {out : Verdict} {t′ r′ : List ℕ}
+    (a : Tabled baseLimits ws d t r out t′ r′) (table : length t ≡ 2048) (room : length r ≡ 16384) where
   table-pass : tableFault baseLimits ws d (length t) (length r) ≡ Passes
   unfolding tableFault
   table-pass = rw (ok .counted .accepted, ok .destination, table-enough (ok .counted) t table, room-enough (ok .counted) r room)
 
-  pub settles : {out : Verdict} {t′ r′ : List ℕ} → Tabled baseLimits ws d t r out t′ r′ → t′ ≡ settled (linksOf ws) d true t
-  settles {out} {t′} {r′} a = filled-stable (linksOf ws) d t t′ (rw table-pass at (a .tabled))
+  pub settles : t′ ≡ settled (linksOf ws) d true t
+  settles = filled-stable (linksOf ws) d t t′ (rw table-pass at (a .tabled))
 
 -- the run -------------------------------------------------------------------------------------------------------------------
 
@@ -140,8 +141,8 @@ passes-last : (v : Verdict) → andThen v Passes ≡ v
 passes-last Passes = refl
 passes-last (Refused r) = refl
 
-module _ {ws : List ℕ} {n : ℕ} (ok : Counted ws n) (d : ℕ) (t r : List ℕ) (table : length t ≡ 2048)
-    (room : length r ≡ 16384) {out : Ran} {t′ r′ : List ℕ} (a : Answered baseLimits ws d [] 65536 t r out t′ r′) where
+module _ {ws : List ℕ} {n : ℕ} (ok : Counted ws n) {d : ℕ} {t r : List ℕ} {out : Ran} {t′ r′ : List ℕ}
+    (a : Answered baseLimits ws d [] 65536 t r out t′ r′) (table : length t ≡ 2048) (room : length r ≡ 16384) where
   ls : List Link
   ls = linksOf ws
 

@@ -18,6 +18,7 @@ pub mod RefusalPlaces
 pub mod MachineLaws
 pub mod MachineRuns
 pub mod MachineCounts
+pub mod EntryLaws
 pub mod LineLaws
 pub mod JudgeLaws
 pub mod OneSheet

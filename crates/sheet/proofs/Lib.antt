@@ -3,7 +3,6 @@ pub mod VerdictLaws
 pub mod StoreLaws
 pub mod NumberLaws
 pub mod FormLaws
-pub mod EntryLaws
 pub mod StandingLaws
 pub mod RunLaws
 pub mod ReadLaws

@@ -22,7 +22,7 @@ use Rattle.sheet.specs.Form.{sheetOf, formFault, destinationOf, lineCoun
 use Rattle.sheet.specs.Places.{over}
 use Rattle.sheet.specs.Sizes.{Below}
 use Rattle.sheet.specs.Entries.{writeFault, bytesAfter, readFault, readReply, tableAfter}
-use Rattle.sheet.proofs.EntryLaws.{entries-words, words-entries, length-words}
+use Rattle.rules.proofs.EntryLaws.{entries-words, words-entries, length-words}
 use Rattle.sheet.proofs.FormLaws.{length-linesFrom}
 use Rattle.sheet.proofs.ReadLaws.{read-passes}
 use Rattle.sheet.proofs.StandingLaws.{standing-fits}

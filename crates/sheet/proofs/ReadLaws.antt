@@ -20,7 +20,7 @@ use Rattle.sheet.specs.Form.{formFault, destinationOf, lineCount, linesF
 use Rattle.sheet.specs.Places.{lineAt, over}
 use Rattle.sheet.specs.Entries.{readFault, replyRead, readReply, tableAfter}
 use Rattle.sheet.proofs.StoreLaws.{sets-append, sets-over}
-use Rattle.sheet.proofs.EntryLaws.{length-words, words-append}
+use Rattle.rules.proofs.EntryLaws.{length-words, words-append}
 use Rattle.sheet.proofs.FormLaws.{Formed, formed, length-linesFrom, lines-more}
 
 -- right form, and room for the lines

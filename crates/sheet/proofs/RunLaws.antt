@@ -9,7 +9,7 @@ use Rattle.rules.specs.Judge.{Entry, entriesOf}
 use Rattle.sheet.specs.Form.{bytes2, bytes4, lineBytes, linesBytes, sheetOf}
 use Rattle.sheet.specs.Places.{entryAt, headOf, over}
 use Rattle.sheet.proofs.StoreLaws.{sets-append, sets-over}
-use Rattle.sheet.proofs.EntryLaws.{length-entries, entries-next, entries-few}
+use Rattle.rules.proofs.EntryLaws.{length-entries, entries-next, entries-few}
 use Rattle.sheet.proofs.FormLaws.{length-line, length-linesBytes}
 
 -- four bytes as two and two

@@ -25,7 +25,7 @@ use Rattle.sheet.specs.Places.{entryAt}
 use Rattle.sheet.specs.Sizes.{Below, Fits}
 use Rattle.sheet.specs.Entries.{tableFault}
 use Rattle.sheet.proofs.VerdictLaws.{then-assoc}
-use Rattle.sheet.proofs.EntryLaws.{length-entries, entries-next, entries-few, entries-take}
+use Rattle.rules.proofs.EntryLaws.{length-entries, entries-next, entries-few, entries-take}
 
 pub same-count : (bound i : ℕ) (us : List ℕ) (es : List Entry) → standingFrom bound i us es ≡ Passes → length es ≡ length us
 unfolding standingFrom

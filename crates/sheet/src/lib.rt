@@ -7,7 +7,7 @@ use rules::Checked;
 use rules::Limits;
 use rules::Refusal;
 
-pub mod numbers;
+mod numbers;
 pub mod reading;
 pub mod rows;
 pub mod standing;

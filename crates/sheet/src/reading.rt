@@ -82,7 +82,7 @@ pub fn line_count(sheet: &[u8]) -> usize
 }
 
 // Line i.
-pub fn line_at(sheet: &[u8], i: usize) -> Row
+pub(crate) fn line_at(sheet: &[u8], i: usize) -> Row
     requires { ⌜ 10 + 11 * i + 11 ≤ length (now sheet) ⌝ }
     ensures { λ r. ⌜ entryOf r ≡ lineAt (now (sheet .entry)) i ⌝ }
 {
@@ -126,7 +126,7 @@ fn read_fault(limits: Limits, sheet: &[u8], words: usize) -> Verdict
 }
 
 // Reading within given limits. Nothing is written before all refusals are looked at.
-pub fn read_within(limits: Limits, sheet: &[u8], table: &mut [u32]) -> SheetRead
+pub(crate) fn read_within(limits: Limits, sheet: &[u8], table: &mut [u32]) -> SheetRead
     ensures reply { λ r. ⌜ r ≡ readReply limits (now (sheet .entry)) (length (now (table .entry))) ⌝ }
     ensures table { λ _. ⌜ now (table .exit) ≡ tableAfter limits (now (sheet .entry)) (now (table .entry)) ⌝ }
 {

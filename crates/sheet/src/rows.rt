@@ -20,7 +20,7 @@ pub struct Row {
 
 impl Row {
     // Whether it can stand as the line that is due for AS u: lengths up to bound.
-    pub fn stands(self, u: u32, bound: u32) -> bool
+    pub(crate) fn stands(self, u: u32, bound: u32) -> bool
         ensures { λ r. ⌜ r ≡ stands bound u (entryOf self) ⌝ }
     {
         let lost = (self.typ == 4) & (0 < self.length);
@@ -43,7 +43,7 @@ pub fn row_at(table: &[u32], i: usize) -> Row
 }
 
 // Puts a line at place i of table words. The other words stay.
-pub fn put_row(table: &mut [u32], i: usize, row: Row)
+pub(crate) fn put_row(table: &mut [u32], i: usize, row: Row)
     requires { ⌜ 4 * i + 4 ≤ length (now table) ⌝ }
     ensures { λ _. ⌜ now (table .exit) ≡ sets (now (table .entry)) (4 * i) (wordsOf (entryOf row ∷ [])) ⌝ }
 {

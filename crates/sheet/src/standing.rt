@@ -13,7 +13,7 @@ use rules::Refusal;
 use rules::Verdict;
 
 // Refusal 7: the destination is none of the ASes.
-pub fn destination_fault(ases: &[u32], destination: u32) -> Verdict
+pub(crate) fn destination_fault(ases: &[u32], destination: u32) -> Verdict
     requires { ⌜ Ascending (now ases) ⌝ }
     ensures { λ r. ⌜ r ≡ destinationFault destination (now (ases .entry)) ⌝ }
 {
@@ -48,7 +48,7 @@ pub fn lines_fault(ases: &[u32], table: &[u32], bound: u32) -> Verdict
 }
 
 // Refusal 11 of any table: missing or surplus lines and words have the shorter count as place.
-pub fn table_fault(ases: &[u32], table: &[u32], bound: u32) -> Verdict
+pub(crate) fn table_fault(ases: &[u32], table: &[u32], bound: u32) -> Verdict
     ensures { λ r. ⌜ r ≡ tableFault bound (now (ases .entry)) (now (table .entry)) ⌝ }
 {
     let n = ases.len();

@@ -87,7 +87,7 @@ fn sheet_fault(ases: &[u32], destination: u32, table: &[u32], bound: u32, room: 
 }
 
 // Writes the sheet of a table for the ASes of a network: the number of its bytes, or refusals 7, 11, 8.
-pub fn write_for(
+pub(crate) fn write_for(
     ases: &[u32],
     destination: u32,
     table: &[u32],

@@ -16,7 +16,7 @@ use Rattle.rules.specs.Lists.{anyOf}
 use Rattle.rules.specs.Network.{linksOf, asesOf}
 use Rattle.rules.specs.Checks.{baseLimits, checkWords, roomNeed}
 use Rattle.rules.specs.Entry.{andThen, unless, linksFault, destinationFault, outputFault, roomFault}
-use Rattle.rules.proofs.Tests.{and-left}
+use Rattle.rules.proofs.Tests.{tests, and-left, and-right}
 use Rattle.rules.proofs.AcceptedLinks.{AcceptedLinks, checkWords-accepted}
 use Rattle.rules.proofs.JudgeLaws.{test-passes}
 use Rattle.findings.specs.Entries.{findingsFault}
@@ -42,6 +42,12 @@ test-holds test why v e = rw e
 
 pub test-fails : (test : Bool) (why : Refusal) (v : Verdict) → test ≡ false → andThen (unless test why) v ≡ Refused why
 test-fails test why v e = rw e
+
+-- the limits on a run
+pub run-limits : (cs : List ℕ) (n : ℕ) → unless (leb (length cs) 65536 && leb n 65536) OverLimit ≡ Passes → (length cs ≤ 65536) × (n ≤ 65536)
+run-limits cs n e =
+    let both = test-passes (leb (length cs) 65536 && leb n 65536) Passes OverLimit e .0 in
+    omega (tests, and-left (leb (length cs) 65536) (leb n 65536) both, and-right (leb (length cs) 65536) (leb n 65536) both)
 
 -- the parts of an entry's verdict
 output-fits : (need have : ℕ) → Fits (outputFault need have)
@@ -94,12 +100,7 @@ module _ (ws : List ℕ) where
       (λ links. then-fits (destinationFault d us) _ (destination-fits d us)
       (λ named. then-fits (outputFault (4 * length us) table) _ (output-fits (4 * length us) table)
       (λ output. then-fits (roomFault need roomWords) _ (room-fits need roomWords)
-      (λ room. (let h = few cs n size in choices-fit (2 * length (linksOf ws)) 0 cs (omega arith)))))))
-    where
-      few : (cs : List ℕ) (n : ℕ) → unless (leb (length cs) 65536 && leb n 65536) OverLimit ≡ Passes → length cs ≤ 268435456
-      few cs n size =
-          let both = test-passes (leb (length cs) 65536 && leb n 65536) Passes OverLimit size .0 in
-          omega (arith, leb-true (length cs) 65536 (and-left (leb (length cs) 65536) (leb n 65536) both))
+      (λ room. choices-fit (2 * length (linksOf ws)) 0 cs (omega (arith, run-limits cs n size)))))))
 
   pub tabled-fits : (d table : ℕ) → Fits (tableFault baseLimits ws d table roomWords)
   unfolding tableFault

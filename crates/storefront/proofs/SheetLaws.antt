@@ -1,36 +1,37 @@
 -- A sheet from link words: the table's refusals come first, its lines are those of the one stable routing, and what is left is whether
 -- the sheet fits.
 use Prim.Native.Nat.{ℕ, _+_, _*_, _/_, _≤_, _<_}
-use mathlib.Core.Path.{_≡_, sym, _∙_, ap, subst}
-use mathlib.Core.List.{List}
+use mathlib.Core.Path.{_≡_, refl, sym, _∙_, ap, subst}
+use mathlib.Core.List.{List, [], _∷_}
 use native.Mathlib.Omega.{arith}
-use lib.ListN.{length, take, length-map}
+use lib.ListN.{length, take}
 use lib.Seq.{take-at}
 use borrow.Author.Tests.{le-leb, lt-leb}
 use Rattle.rules.specs.declared.Refusal.{Refusal}
 use Rattle.rules.specs.declared.Refusal.the-variants.{OutputShort}
+use Rattle.rules.specs.declared.Checked.{Checked}
 use Rattle.rules.specs.declared.Checked.the-variants as checked
 use Rattle.rules.specs.declared.Verdict.{Verdict}
 use Rattle.rules.specs.declared.Verdict.the-variants.{Passes, Refused}
 use Rattle.rules.specs.Network.{linksOf, asesOf, arcsOf}
 use Rattle.rules.specs.Checks.{baseLimits, checkWords}
-use Rattle.rules.specs.Entry.{andThen, verdictOf, linksFault, destinationFault, outputFault, filled}
+use Rattle.rules.specs.Entry.{andThen, linksFault, destinationFault, outputFault, filled}
 use Rattle.rules.specs.Stable.{Routing, tableOf}
 use Rattle.rules.specs.Solve.{stableOf}
-use Rattle.rules.specs.Judge.{Entry, entriesOf, entriesFor}
+use Rattle.rules.specs.Judge.{entriesOf, entriesFor}
 use Rattle.rules.proofs.Exists.{stable-only}
 use Rattle.rules.proofs.ArcLaws.{arcs-positive}
-use Rattle.rules.proofs.LineLaws.{entries-numbers, entries-words}
+use Rattle.rules.proofs.LineLaws.{entries-words}
 use Rattle.table.specs.Entries.{tableFault, Filled, TableAfter}
 use Rattle.sheet.specs.Form.{sheetOf}
 use Rattle.sheet.specs.Places.{over}
 use Rattle.sheet.proofs.VerdictLaws.{then-assoc}
-use Rattle.sheet.proofs.EntryLaws.{length-words}
-use Rattle.sheet.proofs.EntryLaws as entries
+use Rattle.rules.proofs.EntryLaws as entries
 use Rattle.storefront.specs.Page.{packed, packedNo}
 use Rattle.storefront.specs.Steps.{Placed, roomWords, Stably, linesFault, linesReply, linesAfter}
 use Rattle.storefront.proofs.PlaceLaws.{fits-placed}
 use Rattle.storefront.proofs.OrderLaws.{then-same, then-passes, few-ases, room-suffices, tabled-fits}
+use Rattle.storefront.proofs.TableLaws.{bad-links, accepted-ases}
 
 -- Whether it fits -----------------------------------------------------------------------------------------------------------
 
@@ -44,9 +45,9 @@ module _ (need : ℕ) (out bytes : List ℕ) where
   written h p = (rw (le-leb need (length bytes) h), p ∙ rw (le-leb need (length bytes) h))
 
 table-length : (R : Routing) (us : List ℕ) → length (tableOf R us) ≡ 4 * length us
-table-length R us =
-    let count : length (entriesFor R us) ≡ length us = sym (length-map (entriesFor R us) (λ (e : Entry). e .number)) ∙ ap length (entries-numbers R us) in
-    omega (arith, ap length (entries-words R us), length-words (entriesFor R us))
+unfolding tableOf
+table-length R [] = refl
+table-length R (u ∷ us) = omega (arith, table-length R us)
 
 module _ (ws : List ℕ) (d : ℕ) where
   abbrev us : List ℕ
@@ -73,10 +74,10 @@ module _ (ws : List ℕ) (d : ℕ) where
       → (r ≡ linesReply ws d (length bytes)) × (bytes ≡ linesAfter ws d bytes)
   lines-refused bytes why e p = (p ∙ rw e, rw e)
 
-  pub bad-links : (bytes : List ℕ) (why : Refusal) → checkWords baseLimits ws ≡ checked.Refused why → {r : ℕ} → r ≡ packedNo why
+  pub no-lines : (bytes : List ℕ) {c : Checked} → c ≡ checkWords baseLimits ws → {why : Refusal} → c ≡ checked.Refused why → {r : ℕ} → r ≡ packedNo why
       → (r ≡ linesReply ws d (length bytes)) × (bytes ≡ linesAfter ws d bytes)
   unfolding linesFault
-  bad-links bytes why e = lines-refused bytes why (rw (ap verdictOf e))
+  no-lines bytes check {why} refuses = lines-refused bytes why (rw (bad-links ws check refuses))
 
   module _ {old table : List ℕ} {r : Verdict} (long : length old ≡ 2048) (s : Stably ws d old r table) where
     verdict : {v : Verdict} → r ≡ v → tableFault baseLimits ws d 2048 roomWords ≡ v
@@ -92,22 +93,29 @@ module _ (ws : List ℕ) (d : ℕ) where
 
     -- The table -------------------------------------------------------------------------------------------------------------
 
-    -- the first four words per AS are the stable table's
-    pub stable-words : r ≡ Passes → take (4 * length us) table ≡ tableOf (stableOf (arcsOf (linksOf ws)) d) us
-    stable-words e =
-        let f : Filled (linksOf ws) d old table = subst (λ (v : Verdict). TableAfter v (linksOf ws) d old table) (sym (s .replies) ∙ e) (s .tabled) in
-        let only = stable-only (arcsOf (linksOf ws)) (arcs-positive (linksOf ws)) d (f .stable .routing) (f .stable .stable) in
-        let same : f .table ≡ tableOf (stableOf (arcsOf (linksOf ws)) d) us = f .stable .words ∙ ap (λ (R : Routing). tableOf R us) only in
-        ap (take (4 * length us)) (f .words) ∙ take-at (f .table) _ (4 * length us) (ap length same ∙ table-length (stableOf (arcsOf (linksOf ws)) d) us) ∙ same
+    module _ {n : ℕ} (links : checkWords baseLimits ws ≡ checked.Accepted n) (passes : r ≡ Passes) where
+      abbrev S : Routing
+      S = stableOf (arcsOf (linksOf ws)) d
 
-    -- written as far as it fits, it is the sheet
-    pub sheet-made : (bytes lines : List ℕ) → r ≡ Passes → lines ≡ tableOf (stableOf (arcsOf (linksOf ws)) d) us → {reply : ℕ} {after : List ℕ}
-        → (reply ≡ packed (outputFault (10 + 11 * (length lines / 4)) (length bytes)) (10 + 11 * (length lines / 4)))
-        × (after ≡ filled (outputFault (10 + 11 * (length lines / 4)) (length bytes)) (sheetOf d (entriesOf lines)) bytes)
-        → (reply ≡ linesReply ws d (length bytes)) × (after ≡ linesAfter ws d bytes)
-    sheet-made bytes lines e same (p, q) =
-        let S = stableOf (arcsOf (linksOf ws)) d in
-        let fault = lines-second (length bytes) ∙ ap (λ (v : Verdict). andThen v (outputFault (10 + 11 * length us) (length bytes))) (verdict e) in
-        let count : length lines / 4 ≡ length us = omega (arith, ap length same, table-length S us) in
-        let printed : entriesOf lines ≡ entriesFor S us = ap entriesOf (same ∙ sym (entries-words S us)) ∙ entries.entries-words (entriesFor S us) in
-        (p ∙ rw (fault, count), q ∙ rw (fault, count, printed))
+      abbrev lines : List ℕ
+      lines = take (4 * n) table
+
+      -- the first four words per AS are the stable table's
+      stable-words : lines ≡ tableOf S us
+      stable-words =
+          let f : Filled (linksOf ws) d old table = subst (λ (v : Verdict). TableAfter v (linksOf ws) d old table) (sym (s .replies) ∙ passes) (s .tabled) in
+          let only = stable-only (arcsOf (linksOf ws)) (arcs-positive (linksOf ws)) d (f .stable .routing) (f .stable .stable) in
+          let same : f .table ≡ tableOf S us = f .stable .words ∙ ap (λ (R : Routing). tableOf R us) only in
+          let count : length (f .table) ≡ 4 * n = omega (arith, ap length same, table-length S us, accepted-ases ws links .count) in
+          ap (take (4 * n)) (f .words) ∙ take-at (f .table) _ (4 * n) count ∙ same
+
+      -- written as far as it fits, it is the sheet
+      pub sheet-made : (bytes : List ℕ) {reply : ℕ} {after : List ℕ}
+          → (reply ≡ packed (outputFault (10 + 11 * (length lines / 4)) (length bytes)) (10 + 11 * (length lines / 4)))
+          × (after ≡ filled (outputFault (10 + 11 * (length lines / 4)) (length bytes)) (sheetOf d (entriesOf lines)) bytes)
+          → (reply ≡ linesReply ws d (length bytes)) × (after ≡ linesAfter ws d bytes)
+      sheet-made bytes (p, q) =
+          let fault = lines-second (length bytes) ∙ ap (λ (v : Verdict). andThen v (outputFault (10 + 11 * length us) (length bytes))) (verdict passes) in
+          let count : length lines / 4 ≡ length us = omega (arith, ap length stable-words, table-length S us) in
+          let printed : entriesOf lines ≡ entriesFor S us = ap entriesOf (stable-words ∙ sym (entries-words S us)) ∙ entries.entries-words (entriesFor S us) in
+          (p ∙ rw (fault, count), q ∙ rw (fault, count, printed))

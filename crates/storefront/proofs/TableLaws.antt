@@ -1,10 +1,11 @@
 -- Check and stable table on link words, case by case: what a refusal packs to and that its place fits, and what the number of ASes, or of
--- the table's words, packs to.
+-- the table's words, packs to. Links that are refused, for the findings too.
 use Prim.Native.Nat.{ℕ, _*_}
 use mathlib.Core.Path.{_≡_, sym, _∙_, ap, subst}
 use mathlib.Core.List.{List}
 use lib.ListN.{length, replicate}
 use Rattle.rules.specs.declared.Refusal.{Refusal}
+use Rattle.rules.specs.declared.Checked.{Checked}
 use Rattle.rules.specs.declared.Checked.the-variants as checked
 use Rattle.rules.specs.declared.Verdict.{Verdict}
 use Rattle.rules.specs.declared.Verdict.the-variants.{Passes, Refused}
@@ -12,9 +13,10 @@ use Rattle.rules.specs.Network.{linksOf, asesOf}
 use Rattle.rules.specs.Checks.{baseLimits, checkWords}
 use Rattle.rules.specs.Entry.{andThen, verdictOf, linksFault, destinationFault, outputFault}
 use Rattle.rules.proofs.AcceptedLinks.{AcceptedLinks, checkWords-accepted}
+use Rattle.findings.specs.Entries.{findingsFault}
 use Rattle.table.specs.Entries.{tableFault, TableAfter, Tabled}
 use Rattle.storefront.specs.Page.{packed, packedNo, checkReply, pageFault, PageTabled}
-use Rattle.storefront.specs.Steps.{Placed, roomWords}
+use Rattle.storefront.specs.Steps.{Placed, roomWords, foundReply}
 use Rattle.storefront.proofs.PlaceLaws.{fits-placed, links-fit}
 use Rattle.storefront.proofs.OrderLaws.{then-same, then-passes, room-suffices, tabled-fits}
 use Rattle.storefront.proofs.WordLaws.{refusal-packed}
@@ -25,17 +27,24 @@ module _ (ws : List ℕ) where
 
   -- Links that are refused, or accepted ---------------------------------------------------------------------------------------
 
-  module _ {why : Refusal} (e : checkWords baseLimits ws ≡ checked.Refused why) where
+  module _ {c : Checked} (check : c ≡ checkWords baseLimits ws) {why : Refusal} (refuses : c ≡ checked.Refused why) where
+    pub bad-links : linksFault baseLimits ws ≡ Refused why
+    bad-links = ap verdictOf (sym check ∙ refuses)
+
     pub bad-links-placed : Placed why
-    bad-links-placed = fits-placed (ap verdictOf e) (links-fit ws)
+    bad-links-placed = fits-placed bad-links (links-fit ws)
 
     pub check-refuses : packedNo why ≡ checkReply baseLimits ws
     unfolding checkReply
-    check-refuses = refusal-packed (length us) (ap verdictOf e)
+    check-refuses = refusal-packed (length us) bad-links
+
+    pub find-refuses : packedNo why ≡ foundReply ws
+    unfolding findingsFault
+    find-refuses = rw bad-links
 
     pub no-page : (d : ℕ) (table : List ℕ) {r : ℕ} → r ≡ packedNo why → PageTabled baseLimits ws d table r table
     unfolding pageFault
-    no-page d table p = record { replies = p ∙ rw (ap verdictOf e); tabled = rw (ap verdictOf e) }
+    no-page d table p = record { replies = p ∙ rw bad-links; tabled = rw bad-links }
 
   module _ {n : ℕ} (e : checkWords baseLimits ws ≡ checked.Accepted n) where
     pub accepted-ases : AcceptedLinks baseLimits (linksOf ws) n

@@ -11,7 +11,7 @@ use Rattle.rules.specs.declared.Verdict.the-variants.{Passes, Refused}
 use Rattle.rules.specs.Refusals.{refusalNumber, refusalPlace}
 use Rattle.storefront.specs.Page.{packed, packedNo, quietBit}
 use Rattle.storefront.specs.Steps.{Placed}
-use Rattle.storefront.proofs.PlaceLaws.{Fits, number-small}
+use Rattle.storefront.proofs.PlaceLaws.{Fits, number-range}
 
 abbrev pub numberOf : Verdict → ℕ
 numberOf Passes = 0
@@ -24,7 +24,7 @@ number-back (Refused why) value f h = omega arith
 
 -- 'bits 28 to 55 are the place', and the reply is a number of 64 bits
 pub place-back : (why : Refusal) → Placed why → (packedNo why / 268435456 % 268435456 ≡ refusalPlace why) × (packedNo why < 18446744073709551616)
-place-back why h = (omega arith, omega (arith, number-small why))
+place-back why h = (omega arith, omega (arith, number-range why))
 
 -- 'deliveries + idle * 2^20 + quiet * 2^40'
 pub counts-back : (made idle : ℕ) (quiet : Bool) → made ≤ 131072 → idle ≤ 65536

@@ -7,7 +7,6 @@ use mathlib.Core.List.{List}
 use native.Mathlib.Omega.{arith}
 use lib.Dec.{leb}
 use lib.ListN.{length}
-use borrow.Author.Tests.{leb-true}
 use Rattle.rules.specs.declared.Refusal.{Refusal}
 use Rattle.rules.specs.declared.Refusal.the-variants.{OverLimit}
 use Rattle.rules.specs.declared.Verdict.{Verdict}
@@ -17,8 +16,7 @@ use Rattle.rules.specs.Checks.{baseLimits}
 use Rattle.rules.specs.Entry.{unless}
 use Rattle.rules.specs.Findings.{ringed, joined}
 use Rattle.rules.specs.Machine.{Run, lowest, isQuiet}
-use Rattle.rules.proofs.Tests.{and-left, and-right}
-use Rattle.rules.proofs.JudgeLaws.{both-pass, test-passes}
+use Rattle.rules.proofs.JudgeLaws.{both-pass}
 use Rattle.rules.proofs.MachineCounts.{run-counts}
 use Rattle.findings.specs.declared.Found.{Found}
 use Rattle.findings.specs.declared.Found.the-variants as found
@@ -30,7 +28,7 @@ use Rattle.machine.specs.Entries.{runFault, runOn, replyRun, runReply}
 use Rattle.storefront.specs.Page.{packed, packedNo, findingsValue, quietBit}
 use Rattle.storefront.specs.Steps.{Placed, roomWords, foundReply, judgedReply, ranReply}
 use Rattle.storefront.proofs.PlaceLaws.{fits-placed}
-use Rattle.storefront.proofs.OrderLaws.{found-fits, judged-fits, ran-fits}
+use Rattle.storefront.proofs.OrderLaws.{run-limits, found-fits, judged-fits, ran-fits}
 
 -- a verdict that refuses, packed
 pub refusal-packed : {v : Verdict} {why : Refusal} (value : ℕ) → v ≡ Refused why → packedNo why ≡ packed v value
@@ -89,12 +87,9 @@ ran-stops ws run Passes why e = cc
 ran-stops ws run (Refused other) why e = cc
 
 module _ (ws : List ℕ) (d : ℕ) (cs : List ℕ) (n table : ℕ) {r : Ran} (e : r ≡ runReply baseLimits ws d cs n table roomWords) where
-  run-limits : runFault baseLimits ws d cs n table roomWords ≡ Passes → (length cs ≤ 65536) × (n ≤ 65536)
+  within : runFault baseLimits ws d cs n table roomWords ≡ Passes → (length cs ≤ 65536) × (n ≤ 65536)
   unfolding runFault
-  run-limits p =
-      let small = leb (length cs) 65536 && leb n 65536 in
-      let both = test-passes small Passes OverLimit (both-pass (unless small OverLimit) _ p .0) .0 in
-      (leb-true (length cs) 65536 (and-left (leb (length cs) 65536) (leb n 65536) both), leb-true n 65536 (and-right (leb (length cs) 65536) (leb n 65536) both))
+  within p = run-limits cs n (both-pass (unless (leb (length cs) 65536 && leb n 65536) OverLimit) _ p .0)
 
   module _ (made idle : ℕ) (quiet : Bool) (f : r ≡ ran.Ran made idle quiet) where
     says : (runFault baseLimits ws d cs n table roomWords ≡ Passes) × (made ≡ runOn ws d cs n .made) × (idle ≡ runOn ws d cs n .idle)
@@ -103,10 +98,7 @@ module _ (ws : List ℕ) (d : ℕ) (cs : List ℕ) (n table : ℕ) {r : Ran} (e 
     says = ran-says ws (runOn ws d cs n) (runFault baseLimits ws d cs n table roomWords) made idle quiet (sym e ∙ f)
 
     pub ran-few : (made ≤ 131072) × (idle ≤ 65536)
-    ran-few =
-        let within = run-limits (says .0) in
-        let counts = run-counts (arcsOf (linksOf ws)) d cs n in
-        (omega (arith, says .1), omega (arith, says .2))
+    ran-few = omega (arith, within (says .0), run-counts (arcsOf (linksOf ws)) d cs n, says .1, says .2)
 
     pub ran-value : made + 1048576 * idle + quietBit quiet ≡ ranReply ws d cs n table
     ran-value = rw (says .0, says .1, says .2, says .3)

@@ -1,4 +1,5 @@
--- One turn of the loops that begin the table and take next hops over: the entry of the turn is right, those before it stay.
+-- The table as it begins, with fresh lines; and one turn of the loop that takes next hops over: the entry of the turn is right, those
+-- before it stay.
 use Prim.Native.Nat.{ℕ, _+_, _*_, _≤_, _<_}
 use mathlib.Core.Path.{_≡_, refl, _∙_, ap}
 use mathlib.Core.Bool.{cond}
@@ -7,69 +8,38 @@ use native.Mathlib.Omega.{arith}
 use native.Mathlib.Decide.{ℕ-discrete}
 use borrow.Author.Count.{below-more}
 use lib.Dec.{eqb}
-use lib.ListN.{length, getD, set, length-set}
-use lib.Seq.{getD-set-same, getD-set-other}
+use lib.ListN.{length, getD, take}
+use lib.Seq.{getD-take}
+use Rattle.rules.specs.declared.TypeLength.{TypeLength}
 use Rattle.rules.specs.Stable.{Line}
-use Rattle.rules.proofs.OfferLaws.{pair-same}
-use Rattle.offers.specs.Lines.{numberAt, nextAt, pairAt, putLine}
-use Rattle.table.specs.Steps.{fresh, Begun, hopOf, Hopped}
+use Rattle.offers.specs.Lines.{numberAt, lengthAt, nextAt, pairAt, putLine, freshLines}
+use Rattle.offers.proofs.FreshLaws.{LaidTo, laid-long, laid-number, laid-line, laid-word, fresh-own, fresh-other, fresh-next}
+use Rattle.table.specs.Steps.{Lined, hopOf, Hopped}
 use Rattle.table.proofs.LineLaws.{put-word, put-length, put-pair, put-next, put-number, put-other-pair, put-other-next}
 
-pub begun-none : (d : ℕ) (us t : List ℕ) → Begun d us 0 t t
-begun-none d us t =
-    record {
-      lined =
-          record {
-            long = refl;
-            number = λ i l. absurd (omega arith);
-            next = λ i l. absurd (omega arith);
-            rest = λ w l. refl;
-          };
-      pair = λ i l. absurd (omega arith);
-    }
+-- before anything is told no line has a length
+fresh-short : (d u : ℕ) → freshLines d u .pair .length ≡ 0
+fresh-short d u = go (ℕ-discrete u d)
+  where
+    go : Dec (u ≡ d) → freshLines d u .pair .length ≡ 0
+    go (yes e) = ap (λ (p : TypeLength). p .length) (fresh-own d u e)
+    go (no ne) = ap (λ (p : TypeLength). p .length) (fresh-other d u ne)
 
-module _ (d : ℕ) (us : List ℕ) (i : ℕ) (t u : List ℕ) (room : 4 * i + 4 ≤ length u) (b : Begun d us i t u) where
-  abbrev x : ℕ
-  x = getD us i 0
-
-  abbrev new : Line
-  new = record { pair = fresh d x; next = x }
-
-  abbrev numbered : List ℕ
-  numbered = set u (4 * i) x
-
-  fits : 4 * i + 4 ≤ length numbered
-  fits = simp length-set (omega arith)
-
-  -- an entry before
-  before : (j w : ℕ) → j < i → 4 * j ≤ w → w < 4 * j + 4 → getD (putLine numbered i new) w 0 ≡ getD u w 0
-  before j w h l m =
-      put-word numbered i new w (λ e. omega arith) (λ e. omega arith) (λ e. omega arith)
-      ∙ getD-set-other u (4 * i) w x 0 (λ e. omega arith)
-
-  pub begun-more : Begun d us (i + 1) t (putLine numbered i new)
-  begun-more =
+module _ (d : ℕ) {us : List ℕ} {n : ℕ} {old t : List ℕ} (b : LaidTo (freshLines d) us n old t) where
+  pub begun-lined : (list : List ℕ) → take n list ≡ us → 4 * n ≤ length old → Lined list n old t
+  begun-lined list e room =
       record {
-        lined =
-            record {
-              long = put-length numbered i new ∙ simp length-set (b .lined .long);
-              number =
-                  below-more (λ j. numberAt (putLine numbered i new) j ≡ getD us j 0) i
-                  (λ j h. before j (4 * j) h (omega arith) (omega arith) ∙ b .lined .number j h)
-                  (put-number numbered i new i ∙ getD-set-same u (4 * i) x 0 (omega arith));
-              next =
-                  below-more (λ j. nextAt (putLine numbered i new) j ≡ getD us j 0) i
-                  (λ j h. before j (4 * j + 3) h (omega arith) (omega arith) ∙ b .lined .next j h)
-                  (put-next numbered i new fits);
-              rest = λ w l.
-                  put-word numbered i new w (λ e. omega arith) (λ e. omega arith) (λ e. omega arith)
-                  ∙ getD-set-other u (4 * i) w x 0 (λ e. omega arith) ∙ b .lined .rest w (omega arith);
-            };
-        pair =
-            below-more (λ j. pairAt (putLine numbered i new) j ≡ fresh d (getD us j 0)) i
-            (λ j h. pair-same (before j (4 * j + 1) h (omega arith) (omega arith), before j (4 * j + 2) h (omega arith) (omega arith)) ∙ b .pair j h)
-            (put-pair numbered i new fits);
+        long = laid-long b room;
+        number = λ i h. laid-number b i h ∙ listed i h;
+        next = λ i h. ap (λ (l : Line). l .next) (laid-line b i h) ∙ fresh-next d (getD us i 0) ∙ listed i h;
+        rest = laid-word b;
       }
+    where
+      listed : (i : ℕ) → i < n → getD us i 0 ≡ getD list i 0
+      listed i h = rw (← e) (getD-take n list i 0 h)
+
+  pub begun-short : (i : ℕ) → i < n → lengthAt t i ≡ 0
+  begun-short i h = ap (λ (l : Line). l .pair .length) (laid-line b i h) ∙ fresh-short d (getD us i 0)
 
 pub hopped-none : (d : ℕ) (best t : List ℕ) → Hopped d best 0 t t
 hopped-none d best t =

@@ -7,7 +7,7 @@ use mathlib.Core.List.{List, _++_}
 use native.Mathlib.Omega.{arith}
 use native.Mathlib.Decide.{ℕ-discrete}
 use borrow.Author.Tests.{eq-eqb, ne-eqb}
-use lib.ListN.{length, getD, take, drop}
+use lib.ListN.{length, getD, take}
 use Rattle.rules.specs.declared.Link.{Link}
 use Rattle.rules.specs.Lists.{In}
 use Rattle.rules.specs.Offers.{Arc, best}
@@ -22,33 +22,28 @@ use Rattle.rules.proofs.Exists.{stableOf-stable}
 use Rattle.rules.proofs.WalkLaws.{length-below}
 use Rattle.rules.proofs.NetworkLaws.{ases-distinct}
 use Rattle.rules.proofs.ArcLaws.{arcs-ends, arcs-cost, arcs-positive}
-use Rattle.offers.specs.Lines.{numberAt, nextAt, pairAt, printed}
+use Rattle.offers.specs.Lines.{numberAt, pairAt, printed, freshLines}
 use Rattle.offers.specs.Ways.{placeIn}
 use Rattle.offers.specs.Passes.{offersTo}
 use Rattle.offers.proofs.PlaceLaws.{at-in, place-in, place-at}
 use Rattle.offers.proofs.TableLaws.{table-line, printed-at}
+use Rattle.offers.proofs.FreshLaws.{LaidTo, laid-number, laid-line, fresh-own, fresh-other}
 use Rattle.table.specs.Guess.{Framed}
 use Rattle.table.specs.Phases.{Ready, Phased}
-use Rattle.table.specs.Steps.{Lined, fresh, Begun, dueAt, Agreed}
+use Rattle.table.specs.Steps.{dueAt, Agreed}
 use Rattle.table.proofs.LineLaws.{framed-more, lined-framed}
+use Rattle.table.proofs.StepLaws.{begun-lined}
 use Rattle.table.proofs.CloseLaws.{Close}
 use Rattle.table.proofs.PhaseLaws.{ready-reached}
 use Rattle.table.proofs.NearLaws.{Near, near-next, near-last}
-use Rattle.table.proofs.WordLaws.{list-at}
 
 -- The beginning --------------------------------------------------------------------------------------------------------------
 
-fresh-own : (d u : ℕ) → u ≡ d → fresh d u ≡ record { typ = 1; length = 0 }
-fresh-own d u e = simp (eq-eqb u d e)
-
-fresh-other : (d u : ℕ) → u ≢ d → fresh d u ≡ record { typ = 4; length = 0 }
-fresh-other d u ne = simp (ne-eqb u d ne)
-
 -- what is begun is close in phase 1
-close-fresh : (Has : Arc → Type 0) (d : ℕ) (S : Routing) → Marked Has d S → (u : ℕ) → Close S d 1 u (fresh d u)
+close-fresh : (Has : Arc → Type 0) (d : ℕ) (S : Routing) → Marked Has d S → (u : ℕ) → Close S d 1 u (freshLines d u .pair)
 close-fresh Has d S m u = at (ℕ-discrete u d)
   where
-    at : Dec (u ≡ d) → Close S d 1 u (fresh d u)
+    at : Dec (u ≡ d) → Close S d 1 u (freshLines d u .pair)
     at (yes e) =
         rw (fresh-own d u e)
         (record {
@@ -87,10 +82,10 @@ module _ (ws : List ℕ) (d : ℕ) (ps : List ℕ) where
   short : (u : ℕ) → len S u ≤ length us - 1
   short = length-below (λ a. In a (arcsOf ls)) (arcs-positive ls) d S settled us (arcs-ends ls) (arcs-cost ls)
 
-  near-begun : {list old t : List ℕ} → take (length us) list ≡ us → Begun d list (length us) old t → Near S d 1 us t
-  near-begun {list} {old} {t} listed b u is =
+  near-begun : {old t : List ℕ} → LaidTo (freshLines d) us (length us) old t → Near S d 1 us t
+  near-begun {old} {t} b u is =
       let (h, e) = place-in us u is in
-      rw (b .pair (placeIn us u) h, list-at list us listed (placeIn us u) h, e) (close-fresh (λ a. In a (arcsOf ls)) d S (settled .marked) u)
+      rw (ap (λ (l : Line). l .pair) (laid-line b (placeIn us u) h), e) (close-fresh (λ a. In a (arcsOf ls)) d S (settled .marked) u)
 
   -- the phases ask no more than they keep
   module _ {t u : List ℕ} (r : Ready ws ps (length us - 1) t) (p : Phased ls ps (length us - 1) t u) where
@@ -132,17 +127,14 @@ module _ (ws : List ℕ) (d : ℕ) (ps : List ℕ) where
 
   -- Every pair is due --------------------------------------------------------------------------------------------------------
 
-  module _ {list old first t best : List ℕ} (beyond : List ℕ) (listed : take (length us) list ≡ us)
-      (begun : Begun d list (length us) old first) (ready : Ready ws ps (length us - 1) first) (phased : Phased ls ps (length us - 1) first t)
+  module _ {old first t best : List ℕ} (beyond : List ℕ) (begun : LaidTo (freshLines d) us (length us) old first)
+      (ready : Ready ws ps (length us - 1) first) (phased : Phased ls ps (length us - 1) first t)
       (elected : best ≡ tableOf (offersTo ls t (length us)) us ++ beyond) where
-    lined : Lined list (length us) old t
-    lined = lined-framed (begun .lined) (phased-framed ready phased)
-
     number : (i : ℕ) → i < length us → numberAt t i ≡ getD us i 0
-    number i h = lined .number i h ∙ list-at list us listed i h
+    number i h = phased-framed ready phased .number i ∙ laid-number begun i h
 
     pairs : (v : ℕ) → In v us → pairAt t (placeIn us v) ≡ S v .pair
-    pairs = phased-pairs ready phased (near-begun listed begun)
+    pairs = phased-pairs ready phased (near-begun begun)
 
     pair-at : (i : ℕ) → i < length us → pairAt t i ≡ S (getD us i 0) .pair
     pair-at i h = ap (pairAt t) (sym (place-at us (ases-distinct ls) i h)) ∙ pairs (getD us i 0) (at-in 0 us i h)
@@ -155,10 +147,10 @@ module _ (ws : List ℕ) (d : ℕ) (ps : List ℕ) where
         (ap (λ (b : List ℕ). pairAt b i) elected ∙ ap (λ (l : Line). l .pair) (table-line (offersTo ls t (length us)) beyond us i h)
         ∙ ap (λ (l : Line). l .pair) (offers-due t (phased-ready ready phased .room) number pairs (getD us i 0) ne))
 
-    pub phased-agreed : Agreed ls d list (length us) old t best
-    phased-agreed =
+    pub phased-agreed : {list : List ℕ} → take (length us) list ≡ us → 4 * length us ≤ length old → Agreed ls d list (length us) old t best
+    phased-agreed {list} listed room =
         record {
-          lined = lined;
+          lined = lined-framed (begun-lined d begun list listed room) (phased-framed ready phased);
           beyond = beyond;
           elected = elected;
           agrees = λ i h. due-pair i h (ℕ-discrete (getD us i 0) d) ∙ sym (pair-at i h);

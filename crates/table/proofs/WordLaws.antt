@@ -1,14 +1,14 @@
 -- Two lists of table words that agree in length, in their first n entries and beyond them are one. Word by word.
-use Prim.Native.Nat.{ℕ, _+_, _-_, _*_, _/_, _%_, _≤_, _<_}
+use Prim.Native.Nat.{ℕ, _+_, _*_, _/_, _%_, _≤_, _<_}
 use mathlib.Core.Path.{_≡_, sym, _∙_, ap}
 use mathlib.Core.List.{List, _++_}
 use native.Mathlib.Omega.{arith}
 use native.Mathlib.Decide.{ℕ-discrete, decLe}
 use lib.ListN.{length, getD, take, drop, length-append, length-drop}
-use lib.Seq.{ext-getD, getD-append-add, getD-take, getD-drop}
+use lib.Seq.{ext-getD, getD-take}
 use Rattle.rules.specs.Stable.{Line, Routing, tableOf}
 use Rattle.offers.specs.Lines.{numberAt, lineAt}
-use Rattle.offers.proofs.TableLaws.{table-length, table-number, table-line}
+use Rattle.offers.proofs.TableLaws.{table-length, table-number, table-line, table-beyond}
 
 -- the first words of a list, which are another list
 pub list-at : (list us : List ℕ) → take (length us) list ≡ us → (i : ℕ) → i < length us → getD list i 0 ≡ getD us i 0
@@ -45,15 +45,7 @@ table-is R us old t room long number line rest =
     words-same (length us) t new (λ i h. number i h ∙ sym (table-number R (drop (4 * length us) old) us i h))
     (λ i h. line i h ∙ sym (table-line R (drop (4 * length us) old) us i h))
     (omega (arith, length-append (tableOf R us) (drop (4 * length us) old), table-length R us, length-drop (4 * length us) old))
-    (λ w h. rest w h ∙ sym (beyond w h))
+    (λ w h. rest w h ∙ sym (table-beyond R us old w h))
   where
     new : List ℕ
     new = tableOf R us ++ drop (4 * length us) old
-
-    beyond : (w : ℕ) → 4 * length us ≤ w → getD new w 0 ≡ getD old w 0
-    beyond w h =
-        let k = w - 4 * length us in
-        let e : w ≡ length (tableOf R us) + k = omega (arith, table-length R us) in
-        let f : 4 * length us + k ≡ w = omega arith in
-        ap (λ (x : ℕ). getD new x 0) e ∙ getD-append-add (tableOf R us) (drop (4 * length us) old) k 0
-        ∙ getD-drop (4 * length us) old k 0 ∙ ap (λ (x : ℕ). getD old x 0) f

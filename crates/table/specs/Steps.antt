@@ -1,9 +1,7 @@
--- What the steps of the stable table ask and say: it begins, pairs are guessed and judged, or settle phase by phase, and next hops are
+-- What the steps of the stable table ask and say: pairs are guessed and judged, or settle phase by phase, and next hops are
 -- taken over.
 --
 --   Lined us n t u     table u is t with entries for the first n ASes of us, each of which is its own next hop
---   fresh d u          u's pair before the first phase: the destination's origin, every other AS unreachable
---   Begun d us n t u   table u is t with the fresh lines of the first n ASes of us in its first entries
 --   dueAt d t b i      the pair that is due at entry i of t: origin at the destination d, and else that of the best offers b
 --   Agrees d t b n     each of the first n entries has the pair that is due
 --   hopOf d t b i      the next hop of entry i: its own at the destination d, and else that of table b
@@ -26,7 +24,7 @@ use Rattle.rules.specs.declared.Checked.{Checked}
 use Rattle.rules.specs.declared.Checked.the-variants as checked
 use Rattle.rules.specs.declared.Verdict.{Verdict}
 use Rattle.rules.specs.declared.Verdict.the-variants.{Passes, Refused}
-use Rattle.rules.specs.Pairs.{originOf, unreachableOf}
+use Rattle.rules.specs.Pairs.{originOf}
 use Rattle.rules.specs.Lists.{In}
 use Rattle.rules.specs.Network.{linksOf, asesOf}
 use Rattle.rules.specs.Stable.{tableOf}
@@ -39,18 +37,11 @@ use Rattle.offers.specs.Passes.{offersTo}
 use Rattle.table.specs.Entries.{tableFault}
 use Rattle.table.specs.Guess.{Low}
 
-abbrev pub fresh : ℕ → ℕ → TypeLength
-fresh d u = cond (eqb u d) originOf unreachableOf
-
 pub record Lined (us : List ℕ) (n : ℕ) (t u : List ℕ) : Type 0 where
   pub long : length u ≡ length t
   pub number : (i : ℕ) → i < n → numberAt u i ≡ getD us i 0
   pub next : (i : ℕ) → i < n → nextAt u i ≡ getD us i 0
   pub rest : (w : ℕ) → 4 * n ≤ w → getD u w 0 ≡ getD t w 0
-
-pub record Begun (d : ℕ) (us : List ℕ) (n : ℕ) (t u : List ℕ) : Type 0 where
-  pub lined : Lined us n t u
-  pub pair : (i : ℕ) → i < n → pairAt u i ≡ fresh d (getD us i 0)
 
 abbrev pub dueAt : ℕ → List ℕ → List ℕ → ℕ → TypeLength
 dueAt d t b i = cond (eqb (numberAt t i) d) originOf (pairAt b i)

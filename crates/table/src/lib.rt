@@ -15,9 +15,9 @@ use rules::Verdict;
 mod due;
 mod hops;
 mod look;
+mod notes;
 mod phases;
 mod quick;
-mod start;
 
 // A guess at the lines of an accepted network. The places of the links' ends are left in the room.
 fn guess_lines(
@@ -31,7 +31,7 @@ fn guess_lines(
     requires { ⌜ Filling (now words) destination (now ases) n (length (now table)) (length (now room)) ⌝ }
     ensures { λ _. ⌜ Tried (linksOf (now (words .entry))) (now (ases .entry)) n (now (table .entry)) (now (table .exit)) (now (room .exit)) ⌝ }
 {
-    start::begin(table, ases, n, destination);
+    offers::lay_fresh_lines(table, ases, n, destination);
     offers::place_ends(words, ases, n, room);
     quick::guess(words, room, table, n);
 }
@@ -49,7 +49,7 @@ fn settle_lines(
     requires { ⌜ Filling (now words) destination (now ases) n (length (now table)) (length (now places)) × Placed (linksOf (now words)) (now places) × (4 * n ≤ length (now best)) ⌝ }
     ensures { λ _. ⌜ Agreed (linksOf (now (words .entry))) destination (now (ases .entry)) n (now (table .entry)) (now (table .exit)) (now (best .exit)) ⌝ }
 {
-    start::begin(table, ases, n, destination);
+    offers::lay_fresh_lines(table, ases, n, destination);
     phases::settle(words, places, table, (n - 1) as u32);
     offers::elect_links(words, places, table, best, n);
 }

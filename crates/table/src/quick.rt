@@ -1,84 +1,13 @@
 // The pairs of the table, guessed quickly: by phase, and within a phase by length. Nothing is proved of their rightness, only that
 // nothing but pairs changes: rightness rests on the election that judges them (`choose_lines` in lib.rt), and speed on this guess.
-ghost use Prim.Native.Nat.{_+_, _*_, _/_, _≤_, _<_};
+ghost use Prim.Native.Nat.{_*_, _≤_, _<_};
 ghost use mathlib.Core.Path.{_≡_};
 ghost use mathlib.Core.Bool.{true};
 ghost use lib.ListN.{length};
-ghost use Rattle.network.specs.Promises.{HasLink};
 ghost use Rattle.table.specs.Guess.{Guessing, Guessed};
+use super::notes;
 use offers::scratch;
 use rules::TypeLength;
-
-// The ends of a provider link, by their words among the places: its provider stands first.
-const PROVIDER: usize = 0;
-
-const CUSTOMER: usize = 1;
-
-// The index (offers::scratch) notes links. Its heads: by places the provider links over which the AS there tells, and all peer links.
-const HEADS: usize = 1536;
-
-const PEERS: usize = 2048;
-
-// The other end of a provider link.
-fn other(end: usize) -> usize
-    ensures { λ r. ⌜ r < 2 ⌝ }
-{
-    if end == PROVIDER {
-        return CUSTOMER;
-    }
-    PROVIDER
-}
-
-// Link i, over which one end of a provider link hears.
-fn note_link(words: &[u32], places: &[u32], index: &mut [u32], hearer: usize, i: usize)
-    requires { ⌜ HasLink (now words) i × (i < 1536) ⌝ }
-{
-    if network::link_at(words, i).relation == 1 {
-        let teller = scratch::at(places, 2 * i + other(hearer));
-        scratch::note(index, scratch::head_of(HEADS, teller), i);
-    } else {
-        scratch::note(index, PEERS, i);
-    }
-}
-
-// All links, those with smaller places first.
-fn note_links(words: &[u32], places: &[u32], index: &mut [u32], hearer: usize) {
-    let m = scratch::indexed(words);
-    let mut i = 0;
-    while i < m {
-        note_link(words, places, index, hearer, i);
-        i += 1;
-    }
-}
-
-// Where an end of a noted link stands.
-fn place_of(places: &[u32], noted: u32, end: usize) -> u32
-    requires { ⌜ (0 < noted) × (end < 2) ⌝ }
-{
-    scratch::at(places, 2 * ((noted - 1) as usize) + end)
-}
-
-// ASes wait on a shelf, in a stack for each length. An AS is marked by one more than its place, so that 0 is none. Words to ASES: the
-// mark on top, by length. Words past the one there, which stays 0: the mark below, by place.
-fn push(shelf: &mut [u32], mark: u32, length: usize) {
-    scratch::put(
-        shelf,
-        scratch::ASES + (mark as usize),
-        scratch::at(shelf, length),
-    );
-    scratch::put(shelf, length, mark);
-}
-
-// The mark on top of a stack, taken off.
-fn pop(shelf: &mut [u32], length: usize) -> u32 {
-    let mark = scratch::at(shelf, length);
-    scratch::put(
-        shelf,
-        length,
-        scratch::at(shelf, scratch::ASES + (mark as usize)),
-    );
-    mark
-}
 
 // Whether entry i is one of the first n and unreachable.
 fn is_open(table: &[u32], i: usize, n: usize) -> bool
@@ -100,7 +29,7 @@ fn tell(table: &mut [u32], shelf: &mut [u32], hearer: u32, pair: TypeLength, n: 
     if is_open(table, i, n) {
         let next = offers::next_at(table, i);
         offers::put_line(table, i, pair, next);
-        push(shelf, hearer + 1, pair.length as usize);
+        notes::push(shelf, hearer + 1, pair.length as usize);
     }
 }
 
@@ -120,7 +49,13 @@ fn tell_over(
 {
     let mut noted = scratch::at(index, head);
     while 0 < noted {
-        tell(table, shelf, place_of(places, noted, hearer), pair, n);
+        tell(
+            table,
+            shelf,
+            notes::place_of(places, noted, hearer),
+            pair,
+            n,
+        );
         noted = scratch::noted_before(index, noted);
     }
 }
@@ -155,7 +90,7 @@ fn tell_from(
     let teller = mark - 1;
     let pair = told(table, teller as usize, kind, n);
     if (pair.length as usize) < n {
-        let head = scratch::head_of(HEADS, teller);
+        let head = scratch::head_of(notes::HEADS, teller);
         tell_over(places, index, table, shelf, head, hearer, pair, n);
     }
 }
@@ -176,31 +111,12 @@ fn tell_length(
 {
     let mut left = n;
     while 0 < left {
-        let mark = pop(shelf, length);
+        let mark = notes::pop(shelf, length);
         if mark == 0 {
             return;
         }
         tell_from(places, index, table, shelf, mark, hearer, kind, n);
         left -= 1;
-    }
-}
-
-// Every AS that has a line waits to tell it.
-fn wait_all(table: &[u32], shelf: &mut [u32], n: usize)
-    requires { ⌜ Guessing n (now table) ⌝ }
-{
-    let mut i = 0;
-    while i < n {
-        wait(shelf, i, offers::pair_at(table, i));
-        i += 1;
-    }
-}
-
-fn wait(shelf: &mut [u32], i: usize, pair: TypeLength)
-    requires { ⌜ i < 4294967295 ⌝ }
-{
-    if pair.typ < 4 {
-        push(shelf, (i + 1) as u32, pair.length as usize);
     }
 }
 
@@ -217,7 +133,7 @@ fn guess_over(
     requires { ⌜ Guessing n (now table) × (hearer < 2) ⌝ }
     ensures { λ _. ⌜ Guessed n (now (table .entry)) (now (table .exit)) ⌝ }
 {
-    wait_all(table, shelf, n);
+    notes::wait_all(table, shelf, n);
     let mut length = 0;
     while length < n {
         if scratch::at(shelf, length) == 0 {
@@ -262,8 +178,8 @@ fn hear_both(places: &[u32], table: &mut [u32], noted: u32, n: usize)
     requires { ⌜ Guessing n (now table) × (0 < noted) ⌝ }
     ensures { λ _. ⌜ Guessed n (now (table .entry)) (now (table .exit)) ⌝ }
 {
-    let a = place_of(places, noted, 0);
-    let b = place_of(places, noted, 1);
+    let a = notes::place_of(places, noted, 0);
+    let b = notes::place_of(places, noted, 1);
     hear_peer(table, a, b, n);
     hear_peer(table, b, a, n);
 }
@@ -273,7 +189,7 @@ fn hear_peers(places: &[u32], index: &[u32], table: &mut [u32], n: usize)
     requires { ⌜ Guessing n (now table) ⌝ }
     ensures { λ _. ⌜ Guessed n (now (table .entry)) (now (table .exit)) ⌝ }
 {
-    let mut noted = scratch::at(index, PEERS);
+    let mut noted = scratch::at(index, notes::PEERS);
     while 0 < noted {
         hear_both(places, table, noted, n);
         noted = scratch::noted_before(index, noted);
@@ -287,8 +203,8 @@ fn guess_up(words: &[u32], places: &[u32], table: &mut [u32], n: usize)
 {
     let mut index = [0u32; 2049];
     let mut shelf = [0u32; 1025];
-    note_links(words, places, &mut index, PROVIDER);
-    guess_over(places, &index, table, &mut shelf, PROVIDER, 1, n);
+    notes::note_links(words, places, &mut index, notes::PROVIDER);
+    guess_over(places, &index, table, &mut shelf, notes::PROVIDER, 1, n);
     hear_peers(places, &index, table, n);
 }
 
@@ -313,8 +229,8 @@ fn guess_down(words: &[u32], places: &[u32], table: &mut [u32], n: usize)
 {
     let mut index = [0u32; 2049];
     let mut shelf = [0u32; 1025];
-    note_links(words, places, &mut index, CUSTOMER);
-    guess_over(places, &index, table, &mut shelf, CUSTOMER, 3, n);
+    notes::note_links(words, places, &mut index, notes::CUSTOMER);
+    guess_over(places, &index, table, &mut shelf, notes::CUSTOMER, 3, n);
 }
 
 // The pairs of all n lines, from those that are there: over customer links, then peer links, then provider links, if somebody is left to

@@ -21,7 +21,7 @@ loop-holds : tie.Need-loop-holds Inv-loop μ-loop
 loop-holds c =
     let p = c .before .before in
     let s = p .before .before .before .before .before .before in
-    (omega arith, heard-none (s .pre .0) (record { words = p .put-nones .ensures }))
+    (omega arith, heard-none (s .pre .0) _ (p .put-nones .ensures))
 
 hear-link-requires : tie.Need-hear-link-requires Inv-loop μ-loop
 hear-link-requires c κs =
@@ -53,7 +53,7 @@ returns c =
     let p = l .before .before .before in
     let s = p .before .before .before .before .before .before in
     let all = heard-all (l .loop .inv .1) (s .pre .0) (omega (arith, count (s .args .words .now))) in
-    rw (none-rest (s .pre .0) (record { words = p .put-nones .ensures })) at all
+    rw (none-rest (s .pre .0) _ (p .put-nones .ensures)) at all
 
 pub elect-links-spec : {M : Type 1} → statement M
 elect-links-spec =

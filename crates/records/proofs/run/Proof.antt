@@ -1,28 +1,19 @@
 -- `records::run` meets its contract: `Entries.antt`'s walk, at two numbers, words that are read and two lists of words that are written. Assumes nothing.
 use Prim.Native.Nat.{ℕ}
+use mathlib.Core.Path.{refl}
 use mathlib.Core.List.{List, [], _∷_}
 use mir.Syntax.{w32}
 use denote.Enum.Laws as EL
-use denote.Triple.Spec.{tripleOf}
-use denote.Triple.Table.{entered, cited}
-use contract.Running.{givenOf, tables, tablesOf}
 use Rattle.machine.specs.declared.Ran.{Ran}
 use Rattle.machine.proofs.Ran as E
 use Rattle.machine.proofs.Ran.Laws as E′
 use Rattle.rules.specs.Checks.{baseLimits}
 use Rattle.machine.specs.Answers.{Answered}
-use Rattle.records.proofs.From.{Load}
 use Rattle.records.proofs.Shapes.{Kind, num, rd, wr}
 use Rattle.records.proofs.Entries.{Held, Left, entry-meets}
-use Rattle.records.proofs.load.Symbol as load-def
-use Rattle.records.proofs.load.Symbol.{name as #records·load}
-use Rattle.records.proofs.load.Met as load-thm
-use Rattle.records.proofs.loaded.run as g
-use Rattle.records.proofs.loaded.run.Symbol as g-def
 use Rattle.records.proofs.loaded.run.Symbol.{name as #g}
 use Rattle.records.proofs.loaded.run.Met as g-thm
 use Rattle.records.proofs.run.Key.{name as #f}
-use Rattle.records.proofs.run as f
 use Rattle.records.proofs.run.Statement as stated
 use Rattle.records.proofs.run.Code as code
 
@@ -33,10 +24,7 @@ abbrev says : List ℕ → Held ks → Ran → Left ks → Type 0
 says ws a r e = Answered baseLimits ws (a .0) (a .1 .0) (a .1 .1 .0) (a .1 .1 .1 .0) (a .1 .1 .1 .1 .0) r (e .0) (e .1 .0)
 
 pub run-spec : {M : Type 1} → stated.statement M
-unfolding code.routine tablesOf
+unfolding code.routine
 run-spec 𝓤 H 𝓜 𝓖 𝓡 =
-    entered 𝓤 H (tripleOf 𝓤 H (𝓖 .A) f.signature (f.spec 𝓤 H (𝓖 .A) (𝓜 .mem) (𝓡 .run)))
-    (tables 𝓤 H 𝓜 𝓡 code.env .C) (tables 𝓤 H 𝓜 𝓡 code.env .Λ) #f code.function (code.unfolded 𝓤 H 𝓜 𝓡)
-    (entry-meets ks E.the-row says 𝓤 H (𝓖 .A) (givenOf 𝓤 H 𝓜 𝓖) (𝓜 .mem) (𝓡 .run) #g E′.mir (λ r v is. EL.lawful E.the-type E′.the-laws 𝓤 H (𝓖 .A) (givenOf 𝓤 H 𝓜 𝓖) tt .typed r _ is .0) (tablesOf 𝓤 H 𝓜 (tables 𝓤 H 𝓜 𝓡 code.env))
-    (cited 𝓤 H (Load 𝓤 H (𝓖 .A) (𝓜 .mem) (𝓡 .run)) 𝓜 𝓡 code.env #records·load load-def.routine code.calls-records·load (load-thm.met 𝓤 H 𝓜 𝓖 𝓡))
-    (cited 𝓤 H (tripleOf 𝓤 H (𝓖 .A) g.signature (g.spec 𝓤 H (𝓖 .A) (𝓜 .mem) (𝓡 .run))) 𝓜 𝓡 code.env #g g-def.routine code.calls-records·loaded·run (g-thm.met 𝓤 H 𝓜 𝓖 𝓡)))
+    entry-meets ks E.the-row says 𝓤 H 𝓜 𝓖 𝓡 code.env #f #g E′.mir refl (λ A W. EL.lawful E.the-type E′.the-laws 𝓤 H A W tt)
+    (code.unfolded 𝓤 H 𝓜 𝓡) code.calls-records·load code.calls-records·loaded·run (g-thm.met 𝓤 H 𝓜 𝓖 𝓡)

@@ -1,12 +1,12 @@
 -- `table::settle_lines` meets its contract: what is begun is ready for the phases, and what they leave has the pairs that are due.
 use mathlib.Core.Path.{refl}
 use borrow.Author.Needs.{needs}
-use Rattle.table.proofs.FillLaws.{filling-list, filling-some, begun-ready, phased-electing, settled-agreed}
+use Rattle.table.proofs.FillLaws.{filling-list, filling-some, begun, begun-ready, phased-electing, settled-agreed}
 use Rattle.table.proofs.settle_lines.Statement.{statement}
 use Rattle.table.proofs.settle_lines.Tie as tie
 
-begin-requires : tie.Need-begin-requires
-begin-requires c κs =
+lay-fresh-lines-requires : tie.Need-lay-fresh-lines-requires
+lay-fresh-lines-requires c κs =
     let s = c .before .before .before .before .before .before in
     (s .pre .0 .entries, filling-list (s .pre .0))
 
@@ -20,14 +20,15 @@ settle-requires : tie.Need-settle-requires
 settle-requires c κs =
     let beginning = c .before .before .before in
     let s = beginning .before .before .before .before .before .before .before in
-    begun-ready (s .pre .0) _ refl (s .pre .1) (beginning .begin .ensures)
+    begun-ready (s .pre .0) refl (begun (s .pre .0) _ (beginning .lay-fresh-lines .ensures)) _ (s .pre .1)
 
 elect-links-requires : tie.Need-elect-links-requires
 elect-links-requires c κs =
     let settling = c .before .before .before .before in
     let beginning = settling .before .before .before .before in
     let s = beginning .before .before .before .before .before .before .before in
-    (phased-electing _ _ _ _ _ _ _ (s .pre .0 .count) _ (s .pre .0) (s .pre .1) (beginning .begin .ensures) (settling .settle .ensures), s .pre .2)
+    let b = begun (s .pre .0) _ (beginning .lay-fresh-lines .ensures) in
+    (phased-electing _ _ _ _ _ _ _ (s .pre .0 .count) _ (s .pre .0) (s .pre .1) b (settling .settle .ensures), s .pre .2)
 
 same-length : tie.Need-same-length
 same-length c = search needs
@@ -41,14 +42,14 @@ returns c =
     let settling = electing .before .before .before .before .before in
     let beginning = settling .before .before .before .before in
     let s = beginning .before .before .before .before .before .before .before in
-    settled-agreed _ _ _ _ _ _ _ (s .pre .0 .count) _ _ (s .pre .0) (s .pre .1) (beginning .begin .ensures) (settling .settle .ensures)
-    (electing .elect-links .ensures)
+    let b = begun (s .pre .0) _ (beginning .lay-fresh-lines .ensures) in
+    settled-agreed _ _ _ _ _ _ _ (s .pre .0 .count) _ _ (s .pre .0) (s .pre .1) b (settling .settle .ensures) (electing .elect-links .ensures)
 
 pub settle-lines-spec : {M : Type 1} → statement M
 settle-lines-spec =
     tie.close
     (tie.spec
-    begin-requires
+    lay-fresh-lines-requires
     sub-settle
     cast-settle
     settle-requires

@@ -27,7 +27,7 @@ noted-before-requires : tie.Need-noted-before-requires Inv-loop μ-loop
 noted-before-requires c κs = search needs
 
 loop-less : tie.Need-loop-less Inv-loop μ-loop
-loop-less c = c .noted-before .ensures
+loop-less c = c .noted-before .ensures .0
 
 loop-again : tie.Need-loop-again Inv-loop μ-loop
 loop-again c =

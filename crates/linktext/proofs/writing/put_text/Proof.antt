@@ -7,7 +7,7 @@ use lib.Seq.{sets}
 use Rattle.rules.specs.declared.Link.{Link}
 use Rattle.rules.specs.Network.{linksOf, linkAt}
 use Rattle.linktext.specs.Texts.{lineText, textOf}
-use Rattle.linktext.proofs.WordLaws.{linksFrom}
+use Rattle.network.specs.Prefix.{linksFrom}
 use Rattle.linktext.proofs.WriteLaws.{length-next, text-next, text-none}
 use Rattle.linktext.proofs.StoreLaws.{stored-on, stored-length}
 use Rattle.linktext.proofs.writing.put_text.Statement.{statement}
@@ -16,9 +16,9 @@ use Rattle.linktext.proofs.writing.put_text.Tie as tie
 abbrev Inv-loop : tie.InvT-loop
 Inv-loop words bytes₀ m at₀ i₀ bytes at i =
     (i ≤ length words / 3)
-    × (at + length (textOf (linksFrom i words)) ≡ length (textOf (linksOf words)))
+    × (at + length (textOf (linksFrom words i)) ≡ length (textOf (linksOf words)))
     × (length bytes ≡ length bytes₀)
-    × (sets bytes at (textOf (linksFrom i words)) ≡ sets bytes₀ 0 (textOf (linksOf words)))
+    × (sets bytes at (textOf (linksFrom words i)) ≡ sets bytes₀ 0 (textOf (linksOf words)))
 
 abbrev μ-loop : tie.MeasureT-loop
 μ-loop words bytes₀ m at₀ i₀ bytes at i = length words / 3 - i
@@ -50,7 +50,7 @@ loop-again c =
       omega arith,
       omega (arith, s .after, length-next ws (l .i) (omega arith)),
       stored-length s ∙ l .inv .2,
-      stored-on (textOf (linksFrom (l .i + 1) ws)) s ∙ ap (sets (l .bytes) (l .at)) (sym (text-next ws (l .i) (omega arith))) ∙ l .inv .3,
+      stored-on (textOf (linksFrom ws (l .i + 1))) s ∙ ap (sets (l .bytes) (l .at)) (sym (text-next ws (l .i) (omega arith))) ∙ l .inv .3,
     )
 
 same-length : tie.Need-same-length Inv-loop μ-loop

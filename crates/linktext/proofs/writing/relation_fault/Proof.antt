@@ -5,13 +5,13 @@ use native.Mathlib.Omega.{arith}
 use lib.ListN.{length}
 use Rattle.rules.specs.Network.{linksOf, linkAt}
 use Rattle.linktext.specs.Texts.{relationFault}
-use Rattle.linktext.proofs.WordLaws.{linksFrom}
+use Rattle.network.specs.Prefix.{linksFrom}
 use Rattle.linktext.proofs.WriteLaws.{fault-here, fault-later, fault-none}
 use Rattle.linktext.proofs.writing.relation_fault.Statement.{statement}
 use Rattle.linktext.proofs.writing.relation_fault.Tie as tie
 
 abbrev Inv-loop : tie.InvT-loop
-Inv-loop words m i₀ i = (i ≤ length words / 3) × (relationFault i (linksFrom i words) ≡ relationFault 0 (linksOf words))
+Inv-loop words m i₀ i = (i ≤ length words / 3) × (relationFault i (linksFrom words i) ≡ relationFault 0 (linksOf words))
 
 abbrev μ-loop : tie.MeasureT-loop
 μ-loop words m i₀ i = length words / 3 - i

@@ -7,13 +7,13 @@ use Rattle.rules.specs.declared.Link.{Link}
 use Rattle.rules.specs.Network.{linksOf, linkAt}
 use Rattle.linktext.specs.Texts.{lineText, textOf}
 use Rattle.linktext.proofs.TextLaws.{text-bound}
-use Rattle.linktext.proofs.WordLaws.{linksFrom}
+use Rattle.network.specs.Prefix.{linksFrom}
 use Rattle.linktext.proofs.WriteLaws.{length-next, text-none}
 use Rattle.linktext.proofs.writing.text_length.Statement.{statement}
 use Rattle.linktext.proofs.writing.text_length.Tie as tie
 
 abbrev Inv-loop : tie.InvT-loop
-Inv-loop words m total₀ i₀ total i = (i ≤ length words / 3) × (total + length (textOf (linksFrom i words)) ≡ length (textOf (linksOf words)))
+Inv-loop words m total₀ i₀ total i = (i ≤ length words / 3) × (total + length (textOf (linksFrom words i)) ≡ length (textOf (linksOf words)))
 
 abbrev μ-loop : tie.MeasureT-loop
 μ-loop words m total₀ i₀ total i = length words / 3 - i

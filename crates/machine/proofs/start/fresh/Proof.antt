@@ -5,16 +5,16 @@ use Rattle.machine.proofs.StartLaws.{list-long, may-ready, may-send, fr
 use Rattle.machine.proofs.start.fresh.Statement.{statement}
 use Rattle.machine.proofs.start.fresh.Tie as tie
 
-mul-lay-lines : tie.Need-mul-lay-lines
-mul-lay-lines c = search needs
+mul-lay-fresh-lines : tie.Need-mul-lay-fresh-lines
+mul-lay-fresh-lines c = search needs
 
-shared-slice-read-lay-lines : tie.Need-shared-slice-read-lay-lines
-shared-slice-read-lay-lines c =
+shared-slice-read-lay-fresh-lines : tie.Need-shared-slice-read-lay-fresh-lines
+shared-slice-read-lay-fresh-lines c =
     let s = c .before .before .before .before .before .before in
     omega (arith, list-long (s .pre .0), s .pre .0 .destination)
 
-lay-lines-requires : tie.Need-lay-lines-requires
-lay-lines-requires c κs =
+lay-fresh-lines-requires : tie.Need-lay-fresh-lines-requires
+lay-fresh-lines-requires c κs =
     let s = c .before .before .before .before .before .before in
     (s .pre .0 .table, list-long (s .pre .0))
 
@@ -43,15 +43,15 @@ returns c =
     let room = pack .before .before .before .before .before in
     let lines = room .before .before .before .before in
     let s = lines .before .before .before .before .before .before .before in
-    fresh-started (s .pre .0) (lines .lay-lines .ensures) (room .lay-room .ensures) (sent .send .ensures .0) (sent .send .ensures .1) (pack .pack-pair .ensures)
+    fresh-started (s .pre .0) (lines .lay-fresh-lines .ensures) (room .lay-room .ensures) (sent .send .ensures .0) (sent .send .ensures .1) (pack .pack-pair .ensures)
 
 pub fresh-spec : {M : Type 1} → statement M
 fresh-spec =
     tie.close
     (tie.spec
-    mul-lay-lines
-    shared-slice-read-lay-lines
-    lay-lines-requires
+    mul-lay-fresh-lines
+    shared-slice-read-lay-fresh-lines
+    lay-fresh-lines-requires
     lay-room-requires
     pack-pair-requires
     send-requires

@@ -2,12 +2,15 @@
 use Prim.Native.Nat.{_-_, _≤_}
 use mathlib.Core.Path.{_≡_}
 use native.Mathlib.Omega.{arith}
-use Rattle.offers.proofs.PassLaws.{NoneAt, none-at, none-long, none-more}
+use Rattle.rules.specs.Stable.{lost}
+use Rattle.offers.specs.Electing.{numbersOf}
+use Rattle.offers.proofs.FreshLaws.{LaidTo, laid-long}
+use Rattle.offers.proofs.PassLaws.{none-at, none-more}
 use Rattle.offers.proofs.pass.put_nones.Statement.{statement}
 use Rattle.offers.proofs.pass.put_nones.Tie as tie
 
 abbrev Inv-loop : tie.InvT-loop
-Inv-loop told best₀ n i₀ best i = (i ≤ n) × NoneAt told i best₀ best
+Inv-loop told best₀ n i₀ best i = (i ≤ n) × LaidTo lost (numbersOf i told) i best₀ best
 
 abbrev μ-loop : tie.MeasureT-loop
 μ-loop told best₀ n i₀ best i = n - i
@@ -18,10 +21,10 @@ loop-holds c = (omega arith, none-at _ _)
 number-at-requires : tie.Need-number-at-requires Inv-loop μ-loop
 number-at-requires c κs = omega arith
 
-put-none-requires : tie.Need-put-none-requires Inv-loop μ-loop
-put-none-requires c κs =
+put-entry-requires : tie.Need-put-entry-requires Inv-loop μ-loop
+put-entry-requires c κs =
     let l = c .before .before .before in
-    omega (arith, none-long (l .loop .inv .1) (omega arith))
+    omega (arith, laid-long (l .loop .inv .1) (omega arith))
 
 add-i : tie.Need-add-i Inv-loop μ-loop
 add-i c = omega arith
@@ -32,11 +35,11 @@ loop-less c = omega arith
 loop-again : tie.Need-loop-again Inv-loop μ-loop
 loop-again c =
     let l = c .before .before .before .before .before .before in
-    let more = none-more (l .loop .inv .1) (omega arith) _ (c .before .before .before .number-at .ensures) in
-    (omega arith, rw (c .before .before .put-none .ensures) more)
+    let more = none-more _ (l .loop .inv .1) (omega arith) _ (c .before .before .before .number-at .ensures) in
+    (omega arith, rw (c .before .before .put-entry .ensures) more)
 
 same-length : tie.Need-same-length Inv-loop μ-loop
-same-length c = none-long (c .before .loop .inv .1) (omega arith)
+same-length c = laid-long (c .before .loop .inv .1) (omega arith)
 
 returns : tie.Need-returns Inv-loop μ-loop
 returns c =
@@ -51,7 +54,7 @@ put-nones-spec =
     μ-loop
     loop-holds
     number-at-requires
-    put-none-requires
+    put-entry-requires
     add-i
     loop-less
     loop-again

@@ -1,9 +1,7 @@
 -- `records::loaded::check_links` meets its contract: too many links are refused as every list of too many is, and few are the words lent.
 use mathlib.Core.Path.{sym}
-use native.Mathlib.Omega.{arith}
-use lib.Seq.{length-take-le}
 use borrow.Author.Needs.{needs}
-use Rattle.records.proofs.Laws.{words-length, holding-many, holding-few}
+use Rattle.records.proofs.Laws.{few-within, lent-length, holding-many, holding-few}
 use Rattle.records.proofs.ManyLaws.{check-many}
 use Rattle.records.proofs.loaded.check_links.Statement.{statement}
 use Rattle.records.proofs.loaded.check_links.Tie as tie
@@ -15,20 +13,16 @@ mul-words : tie.Need-mul-words
 mul-words c = search needs
 
 array-share-prefix-words : tie.Need-array-share-prefix-words
-array-share-prefix-words c =
-    let start = c .before .before in
-    omega (arith, words-length (start .args .w) _ (start .good .0), c .before .if1 .left)
+array-share-prefix-words c = (let start = c .before .before in few-within (start .args .w) _ (start .good .0) (c .before .if1 .left))
 
 slice-aggregate-check-links : tie.Need-slice-aggregate-check-links
-slice-aggregate-check-links c = sym (length-take-le _ _ (array-share-prefix-words (c .before)))
+slice-aggregate-check-links c = lent-length _ _ (array-share-prefix-words (c .before))
 
 check-links-requires : tie.Need-check-links-requires
 check-links-requires c κs = search needs
 
 returns-2 : tie.Need-returns-2
-returns-2 c =
-    let called = c in
-    holding-few _ _ (called .before .before .before .if1 .left) (called .check-links .ensures)
+returns-2 c = holding-few _ _ (c .before .before .before .if1 .left) (c .check-links .ensures)
 
 pub check-links-spec : {M : Type 1} → statement M
 check-links-spec =

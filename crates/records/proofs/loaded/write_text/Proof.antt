@@ -1,9 +1,6 @@
 -- `records::loaded::write_text` meets its contract: too many links are refused as every list of too many is, and few are the words lent.
-use mathlib.Core.Path.{sym}
-use native.Mathlib.Omega.{arith}
-use lib.Seq.{length-take-le}
 use borrow.Author.Needs.{needs}
-use Rattle.records.proofs.Laws.{words-length, holding-many, holding-few}
+use Rattle.records.proofs.Laws.{few-within, lent-length, holding-many, holding-few}
 use Rattle.records.proofs.ManyLaws.{text-many}
 use Rattle.records.proofs.loaded.write_text.Statement.{statement}
 use Rattle.records.proofs.loaded.write_text.Tie as tie
@@ -15,12 +12,10 @@ mul-words : tie.Need-mul-words
 mul-words c = search needs
 
 array-share-prefix-words : tie.Need-array-share-prefix-words
-array-share-prefix-words c =
-    let start = c .before .before .before in
-    omega (arith, words-length (start .args .w) _ (start .good .0), c .before .if1 .left)
+array-share-prefix-words c = (let start = c .before .before .before in few-within (start .args .w) _ (start .good .0) (c .before .if1 .left))
 
 slice-aggregate-write-text : tie.Need-slice-aggregate-write-text
-slice-aggregate-write-text c = sym (length-take-le _ _ (array-share-prefix-words (c .before)))
+slice-aggregate-write-text c = lent-length _ _ (array-share-prefix-words (c .before))
 
 write-text-requires : tie.Need-write-text-requires
 write-text-requires c κs = search needs

@@ -5,9 +5,7 @@ use Rattle.report.proofs.input.answer.Statement.{statement}
 use Rattle.report.proofs.input.answer.Tie as tie
 
 returns : tie.Need-returns
-returns c =
-    let A = c .before .before .before .args in
-    refuses _ _ (A .table .now) (A .room .now) (too-long (A .input .now) (c .if1 .taken))
+returns c = refuses (too-long (c .before .before .before .args .input .now) (c .if1 .taken))
 
 answer-lines-requires : tie.Need-answer-lines-requires
 answer-lines-requires c κs = search needs

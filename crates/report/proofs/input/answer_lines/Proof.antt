@@ -29,7 +29,7 @@ returns c =
     let A = c .before .before .before .before .before .args in
     let f = c .before .before .before .find in
     let here : f .result ≡ placeOf lf (A .input .now) = omega arith in
-    refuses _ _ (A .table .now) (A .room .now) (no-number (A .input .now) here (c .before .read-number .ensures) (c .match .keys2))
+    refuses (no-number (A .input .now) here (c .before .read-number .ensures) (c .match .keys2))
 
 text-from-requires : tie.Need-text-from-requires
 text-from-requires c κs = search needs

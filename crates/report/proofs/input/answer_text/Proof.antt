@@ -43,8 +43,7 @@ returns : tie.Need-returns
 returns c =
     let A = c .before .before .before .before .before .before .before .args in
     let r = c .before .before .before .before .read-scratch in
-    refuses _ (A .destination) (A .table .now) (A .room .now)
-    (no-text (A .text .now) (A .destination) (lost (textIn baseLimits (A .text .now)) _ _ (r .result) _ (r .ensures) (c .before .why .given .1)))
+    refuses (no-text (A .text .now) (A .destination) (lost (textIn baseLimits (A .text .now)) _ _ (r .result) _ (r .ensures) (c .before .why .given .1)))
 
 returns-2 : tie.Need-returns-2
 returns-2 c =

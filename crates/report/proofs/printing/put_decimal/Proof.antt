@@ -16,9 +16,7 @@ slice-write-bytes c =
     omega (arith, stored-length s, digits-bound 10 (c .before .before .before .before .before .args .n))
 
 add-result : tie.Need-add-result
-add-result c =
-    let s = c .before .before .put-number .ensures in
-    omega (arith, stored-length s, digits-bound 10 (c .before .before .before .before .before .args .n))
+add-result c = omega (arith, slice-write-bytes c)
 
 same-length : tie.Need-same-length
 same-length c = search needs

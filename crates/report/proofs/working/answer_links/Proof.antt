@@ -14,21 +14,16 @@ enum-known-n : tie.Need-enum-known-n
 enum-known-n c = search needs
 
 run-machine-requires : tie.Need-run-machine-requires
-run-machine-requires c κs =
-    let A = c .before .before .before .before .before .before .before .args in
-    good-links (A .words .now) (A .destination) (c .before .before .before .before .before .check-links .ensures) (c .before .before .before .n .given .1)
+run-machine-requires c κs = good-links _ (c .before .before .before .before .before .check-links .ensures) (c .before .before .before .n .given .1)
 
 returns : tie.Need-returns
-returns c =
-    let A = c .before .before .before .before .before .args in
-    refuses _ (A .destination) (A .table .now) (A .room .now)
-    (bad-links (A .words .now) (A .destination) (c .before .before .before .check-links .ensures) (c .before .why .given .1))
+returns c = refuses (bad-links _ (c .before .before .before .check-links .ensures) _ (c .before .why .given .1))
 
 returns-2 : tie.Need-returns-2
 returns-2 c =
-    let A = c .before .before .before .before .before .before .before .before .args in
-    let ok = good-links (A .words .now) (A .destination) (c .before .before .before .before .before .before .check-links .ensures) (c .before .before .before .before .n .given .1) in
-    rw (links-pass (A .destination) ok) (c .run-machine .ensures)
+    let s = c .before .before .before .before .before .before in
+    let ok = good-links _ (s .check-links .ensures) (c .before .before .before .before .n .given .1) in
+    rw (links-pass (s .before .before .args .destination) ok) (c .run-machine .ensures)
 
 pub answer-links-spec : {M : Type 1} → statement M
 answer-links-spec =

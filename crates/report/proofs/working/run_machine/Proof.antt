@@ -1,7 +1,5 @@
 -- `run_machine`: memory suffices, so only a destination that is not there is refused; the rest is what is told of the run.
-use mathlib.Core.Path.{_≡_}
 use native.Mathlib.Omega.{arith}
-use lib.ListN.{length}
 use Rattle.report.proofs.WorkLaws.{run-refused, run-accepted, run-made, run-told}
 use borrow.Author.Needs.{needs}
 use Rattle.report.proofs.working.run_machine.Statement.{statement}
@@ -22,35 +20,23 @@ enum-known-made c = search needs
 cast-deliveries : tie.Need-cast-deliveries
 cast-deliveries c =
     let S = c .before .before .before .before .before .before .before .before in
-    let A = S .args in
-    let table : length (A .table .now) ≡ 2048 = omega arith in
-    let room : length (A .room .now) ≡ 16384 = omega arith in
-    omega (arith, run-made (S .pre) (A .destination) (A .table .now) (A .room .now) table room (c .before .before .before .run .ensures) (c .before .made .given .1))
+    omega (arith, run-made (S .pre) (c .before .before .before .run .ensures) (omega arith) (omega arith) (c .before .made .given .1))
 
 tell-requires : tie.Need-tell-requires
 tell-requires c κs =
     let S = c .before .before .before .before .before .before .before .before .before .before in
-    let A = S .args in
-    let table : length (A .table .now) ≡ 2048 = omega arith in
-    let room : length (A .room .now) ≡ 16384 = omega arith in
-    run-accepted (S .pre) (A .destination) (A .table .now) (A .room .now) table room (c .before .before .before .before .before .run .ensures) (c .before .before .before .made .given .1)
+    run-accepted (S .pre) (c .before .before .before .before .before .run .ensures) (omega arith) (omega arith) (c .before .before .before .made .given .1)
 
 returns : tie.Need-returns
 returns c =
     let S = c .before .before .before .before .before .before .before .before in
-    let A = S .args in
-    let table : length (A .table .now) ≡ 2048 = omega arith in
-    let room : length (A .room .now) ≡ 16384 = omega arith in
-    run-refused (S .pre) (A .destination) (A .table .now) (A .room .now) table room (c .before .before .before .run .ensures) (c .before .why .given .1)
+    run-refused (S .pre) (c .before .before .before .run .ensures) (omega arith) (omega arith) (c .before .why .given .1)
 
 returns-2 : tie.Need-returns-2
 returns-2 c =
     let S = c .before .before .before .before .before .before .before .before .before .before .before in
-    let A = S .args in
-    let table : length (A .table .now) ≡ 2048 = omega arith in
-    let room : length (A .room .now) ≡ 16384 = omega arith in
     let t = c .tell .ensures in
-    run-told (S .pre) (A .destination) (A .table .now) (A .room .now) table room (c .before .before .before .before .before .before .run .ensures) (c .before .before .before .before .made .given .1) (t .0) (t .1 .0) (t .1 .1)
+    run-told (S .pre) (c .before .before .before .before .before .before .run .ensures) (omega arith) (omega arith) (c .before .before .before .before .made .given .1) (t .0) (t .1 .0) (t .1 .1)
 
 pub run-machine-spec : {M : Type 1} → statement M
 run-machine-spec =

@@ -1,7 +1,5 @@
 -- `settle`: the network is accepted and memory suffices, so the stable table comes, and there is only one.
-use mathlib.Core.Path.{_≡_}
 use native.Mathlib.Omega.{arith}
-use lib.ListN.{length}
 use Rattle.report.proofs.WorkLaws.{settles, tabled-room}
 use borrow.Author.Needs.{needs}
 use Rattle.report.proofs.working.settle.Statement.{statement}
@@ -12,10 +10,7 @@ stable-table-requires c κs = search needs
 
 returns : tie.Need-returns
 returns c =
-    let A = c .before .before .before .before .before .args in
-    let table : length (A .table .now) ≡ 2048 = omega arith in
-    let room : length (A .room .now) ≡ 16384 = omega arith in
-    let e = settles (c .before .before .before .before .before .pre) (A .table .now) (A .room .now) table room (c .stable-table .ensures) in
+    let e = settles (c .before .before .before .before .before .pre) (c .stable-table .ensures) (omega arith) (omega arith) in
     (rw (c .before .before .before .if1 .taken) e, tabled-room (c .stable-table .ensures))
 
 returns-2 : tie.Need-returns-2

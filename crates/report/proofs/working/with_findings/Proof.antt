@@ -1,7 +1,6 @@
 -- `with_findings`: the network is accepted and the room suffices, so the findings come.
-use mathlib.Core.Path.{_≡_, _∙_}
+use mathlib.Core.Path.{_∙_}
 use native.Mathlib.Omega.{arith}
-use lib.ListN.{length}
 use Rattle.report.proofs.WorkLaws.{findings-room, none-found, tells-both}
 use borrow.Author.Needs.{needs}
 use Rattle.report.proofs.working.with_findings.Statement.{statement}
@@ -20,15 +19,13 @@ returns : tie.Need-returns
 returns c =
     let S = c .before .before .before .before .before .before in
     let f = c .before .before .before .find in
-    let long : length (S .args .room .now) ≡ 16384 = omega arith in
-    none-found (S .pre .counted) (S .args .room .now) long (f .ensures .0) (c .before .why .given .1)
+    none-found (S .pre .counted) (S .args .room .now) (omega arith) (f .ensures .0) (c .before .why .given .1)
 
 returns-2 : tie.Need-returns-2
 returns-2 c =
     let S = c .before .before .before .before .before .before in
     let f = c .before .before .before .find in
-    let long : length (S .args .room .now) ≡ 16384 = omega arith in
-    (tells-both (S .pre .counted) (S .args .room .now) long (f .ensures .0) (S .args .end) (c .before .ring .given .1), f .ensures .1 ∙ findings-room (S .pre .counted) (S .args .room .now) long)
+    (tells-both (S .pre .counted) (S .args .room .now) (omega arith) (f .ensures .0) (S .args .end) (c .before .ring .given .1), f .ensures .1 ∙ findings-room (S .pre .counted) (S .args .room .now) (omega arith))
 
 pub with-findings-spec : {M : Type 1} → statement M
 with-findings-spec =

@@ -1,5 +1,5 @@
 -- `links::check_loaded`: too many links are refused as every list of too many is, and few are the words lent.
-use mathlib.Core.Path.{_∙_}
+use mathlib.Core.Path.{refl, _∙_}
 use Rattle.records.proofs.Laws.{holding-many}
 use Rattle.records.proofs.ManyLaws.{check-many}
 use Rattle.storefront.proofs.TableLaws.{check-refuses}
@@ -11,7 +11,7 @@ refused-requires : tie.Need-refused-requires
 refused-requires c κs = search needs
 
 returns : tie.Need-returns
-returns c = holding-many _ _ (c .before .if1 .taken) (λ ls g. c .refused .ensures ∙ check-refuses _ (check-many ls g))
+returns c = holding-many _ _ (c .before .if1 .taken) (λ ls g. c .refused .ensures ∙ check-refuses _ refl (check-many ls g))
 
 check-first-requires : tie.Need-check-first-requires
 check-first-requires c κs = search needs

@@ -1,4 +1,5 @@
 -- `links::table_loaded`: too many links are refused as every list of too many is, and few are the words lent.
+use mathlib.Core.Path.{refl}
 use Rattle.records.proofs.Laws.{holding-many, holding-few}
 use Rattle.records.proofs.ManyLaws.{check-many}
 use Rattle.storefront.proofs.TableLaws.{no-page}
@@ -10,7 +11,7 @@ refused-requires : tie.Need-refused-requires
 refused-requires c κs = search needs
 
 returns : tie.Need-returns
-returns c = holding-many _ _ (c .before .if1 .taken) (λ ls g. no-page _ (check-many ls g) _ _ (c .refused .ensures))
+returns c = holding-many _ _ (c .before .if1 .taken) (λ ls g. no-page _ refl (check-many ls g) _ _ (c .refused .ensures))
 
 table-first-requires : tie.Need-table-first-requires
 table-first-requires c κs = search needs

@@ -1,35 +1,21 @@
 -- `sheets::make_for`: the table is the stable one, four words for each of the n ASes, and what is written of it is the sheet.
-use Prim.Native.Nat.{ℕ, _*_, _≤_}
-use mathlib.Core.Path.{_≡_, refl, sym, _∙_, ap}
+use Prim.Native.Nat.{_*_, _≤_}
+use mathlib.Core.Path.{refl, sym, ap}
 use native.Mathlib.Omega.{arith}
-use lib.ListN.{length, take}
+use lib.ListN.{length}
 use lib.Seq.{length-take-le}
-use Rattle.rules.specs.Network.{linksOf, asesOf, arcsOf}
-use Rattle.rules.specs.Checks.{baseLimits}
 use Rattle.rules.specs.Entry.{verdictOf}
-use Rattle.rules.specs.Stable.{tableOf}
-use Rattle.rules.specs.Solve.{stableOf}
-use Rattle.rules.proofs.AcceptedLinks.{AcceptedLinks, checkWords-accepted}
-use Rattle.storefront.proofs.SheetLaws.{no-table-placed, no-table, stable-words, sheet-made}
+use Rattle.storefront.proofs.TableLaws.{accepted-ases}
+use Rattle.storefront.proofs.SheetLaws.{no-table-placed, no-table, sheet-made}
 use borrow.Author.Needs.{needs}
 use Rattle.storefront.proofs.sheets.make_for.Statement.{statement}
 use Rattle.storefront.proofs.sheets.make_for.Tie as tie
 
-ases : (c : tie.After-table)
-    → AcceptedLinks baseLimits (linksOf (c .before .before .before .args .words .now)) (c .before .before .before .args .n)
-ases c = checkWords-accepted baseLimits _ _ (c .before .before .before .pre) .1
+few : (c : tie.After-table) → c .before .before .before .args .n ≤ 512
+few c = accepted-ases _ (c .before .before .before .pre) .few-ases
 
 room : (c : tie.After-tabulate) → 4 * c .before .before .before .before .args .n ≤ length (c .tabulate .last .1 .1 .0)
-room c = (let a = ases (c .before) in omega (arith, a .few-ases, c .tabulate .kept .1 .1 .0))
-
-lines : (c : tie.After-enum-told)
-    → take (4 * c .before .before .before .before .before .before .before .args .n) (c .before .before .before .tabulate .last .1 .1 .0)
-    ≡ tableOf (stableOf (arcsOf (linksOf (c .before .before .before .before .before .before .before .args .words .now))) (c .before .before .before .before .before .before .before .args .destination))
-    (asesOf (linksOf (c .before .before .before .before .before .before .before .args .words .now)))
-lines c =
-    let t = c .before .before .before in
-    ap (λ (k : ℕ). take (4 * k) (t .tabulate .last .1 .1 .0)) (ases (t .before) .count)
-    ∙ stable-words _ _ refl (t .tabulate .ensures) (c .enum-told .given .1)
+room c = omega (arith, few (c .before), c .tabulate .kept .1 .1 .0)
 
 slice-aggregate-tabulate : tie.Need-slice-aggregate-tabulate
 slice-aggregate-tabulate c = search needs
@@ -41,7 +27,7 @@ enum-told : tie.Need-enum-told
 enum-told c = search needs
 
 mul-table : tie.Need-mul-table
-mul-table c = (let a = ases (c .before .before .before .before) in omega (arith, a .few-ases))
+mul-table c = omega (arith, few (c .before .before .before .before))
 
 array-share-prefix-table : tie.Need-array-share-prefix-table
 array-share-prefix-table c = room (c .before .before .before)
@@ -52,7 +38,7 @@ slice-aggregate-write c = sym (length-take-le _ _ (room (c .before .before .befo
 write-requires : tie.Need-write-requires
 write-requires c κs =
     let t = c .before .before .before .before .before in
-    omega (arith, length-take-le (4 * t .before .before .before .before .args .n) (t .tabulate .last .1 .1 .0) (room t), ases (t .before) .few-ases)
+    omega (arith, length-take-le (4 * t .before .before .before .before .args .n) (t .tabulate .last .1 .1 .0) (room t), few (t .before))
 
 enum-known-why : tie.Need-enum-known-why
 enum-known-why c = search needs
@@ -68,7 +54,7 @@ returns c =
     let w = c .before .before in
     let p = w .before .before .before in
     let t = p .before .before .before in
-    sheet-made _ _ refl (t .tabulate .ensures) (t .before .before .before .before .args .sheet .now) _ (p .enum-told .given .1) (lines p) (w .write .ensures)
+    sheet-made _ _ refl (t .tabulate .ensures) (t .before .before .before .before .pre) (p .enum-told .given .1) (t .before .before .before .before .args .sheet .now) (w .write .ensures)
 
 returns-2 : tie.Need-returns-2
 returns-2 c =

@@ -1,15 +1,9 @@
 -- `words::check`: the reply of the check, case by case (`check-accepts`, `check-refuses`).
-use mathlib.Core.Path.{_≡_, sym, _∙_}
-use Rattle.rules.specs.declared.Checked.the-variants.{Refused}
-use Rattle.rules.specs.Checks.{baseLimits, checkWords}
+use mathlib.Core.Path.{sym, _∙_}
 use Rattle.storefront.proofs.TableLaws.{bad-links-placed, check-accepts, check-refuses}
 use borrow.Author.Needs.{needs}
 use Rattle.storefront.proofs.words.check.Statement.{statement}
 use Rattle.storefront.proofs.words.check.Tie as tie
-
-links-refused : (c : tie.After-why)
-    → checkWords baseLimits (c .before .before .before .before .args .words .now) ≡ Refused (c .why .given .0 .0)
-links-refused c = sym (c .before .before .check-links .ensures) ∙ c .why .given .1
 
 check-links-requires : tie.Need-check-links-requires
 check-links-requires c κs = search needs
@@ -21,13 +15,13 @@ enum-known-why : tie.Need-enum-known-why
 enum-known-why c = search needs
 
 refused-requires : tie.Need-refused-requires
-refused-requires c κs = bad-links-placed _ (links-refused (c .before))
+refused-requires c κs = (let w = c .before in bad-links-placed _ (w .before .before .check-links .ensures) (w .why .given .1))
 
 returns : tie.Need-returns
 returns c = check-accepts _ (sym (c .before .before .before .check-links .ensures) ∙ c .before .n .given .1)
 
 returns-2 : tie.Need-returns-2
-returns-2 c = c .refused .ensures ∙ check-refuses _ (links-refused (c .before .before))
+returns-2 c = (let w = c .before .before in c .refused .ensures ∙ check-refuses _ (w .before .before .check-links .ensures) (w .why .given .1))
 
 pub check-spec : {M : Type 1} → statement M
 check-spec =
