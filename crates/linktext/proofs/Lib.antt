@@ -14,4 +14,5 @@ pub mod StoreLaws
 pub mod WriteLaws
 pub mod EntryLaws
 pub mod EntryTrips
+pub mod FourLaws
 pub mod QuickLaws

@@ -2,16 +2,17 @@
 --
 --   here, join         one byte stands; two parts that follow each other stand
 --   unsure             of a value that is too large nothing is said
---   Spelling t at k v  the k bytes from `at` on spell v; spell-one, spell-more, spell-found   the first digit, one more, the end
 --   under              a value that can take one digit more
---   spell-none, begins the number 0; any other number's first digit
+--   begun-one, begun-more, begun-found   a number's first digit, one more, the end; begun-next   one more, as it is tested
+--   begun-four, begun-eight   its first four at once, and four more
+--   spell-none, begins the number 0; any other number's first digit, as it is tested
 --   relation-none, relation-some   the relations `0` and `-1`
 --   and-byte           one byte more: a bar or an LF
 --   no-link, all-parts, written-gives   a link that is unsure; a link from its three parts; its line gives it
 use mathlib.Core.Path.{_≡_, refl, sym, ap, _∙_}
 use mathlib.Core.Bool.{true}
 use mathlib.Core.List.{List, [], _∷_, _++_, append-assoc}
-use Prim.Native.Nat.{ℕ, zero, suc, _+_, _-_, _*_, _^_, _≤_, _<_}
+use Prim.Native.Nat.{ℕ, zero, suc, _+_, _-_, _*_, _/_, _%_, _^_, _≤_, _<_}
 use native.Mathlib.Numerals.{add-one}
 use native.Mathlib.Omega.{arith}
 use lib.ListN.{length, getD, drop, length-append}
@@ -24,8 +25,9 @@ use Rattle.linktext.specs.Lines.{lf, minus, digit0, isDigit}
 use Rattle.linktext.specs.Texts.{decimal, relationText}
 use Rattle.linktext.specs.Fields.{placeOf}
 use Rattle.linktext.specs.Plain.{lineBody}
-use Rattle.linktext.specs.Usual.{Stands, Found, Begun, fieldText, endText, Written, Gives}
-use Rattle.linktext.proofs.DigitLaws.{Spells, one, more, spells-digits, decimal-short, digit-low, digit-high}
+use Rattle.linktext.specs.Usual.{Stands, Found, Begun, Four, Digits, spelled, fieldText, endText, Written, Gives}
+use Rattle.linktext.proofs.DigitLaws.{more, digits-spell, spells-digits, decimal-short, digit-low, digit-high}
+use Rattle.linktext.proofs.FourLaws.{digit-bytes}
 use Rattle.linktext.proofs.LineLaws.{body-without, line-reads}
 use Rattle.linktext.proofs.TextLaws.{line-text, line-parts, relation-one, relation-other}
 
@@ -55,68 +57,79 @@ powers zero m h = some-power m
 powers (suc k) zero h = absurd (omega arith)
 powers (suc k) (suc m) h = omega (arith, powers k m (omega arith))
 
-pub record Spelling (t : List ℕ) (at k v : ℕ) : Type 0 where
-  pub low : 1 ≤ k
-  pub high : k ≤ 10
-  pub room : at + 10 ≤ length t
-  pub some : 1 ≤ v
-  pub small : v < 10 ^ k
-  pub digits : List ℕ
-  pub spells : Spells v digits
-  pub stands : Stands t at digits (at + k)
+-- a number's last digit, after those of its tenth part
+decimal-more : (v d : ℕ) → 1 ≤ v → v < 1000000000 → d ≤ 9 → decimal (10 * v + d) ≡ decimal v ++ ((digit0 + d) ∷ [])
+decimal-more v d h k l = spells-digits 9 (more v d (decimal v) h (omega arith) (digits-spell 9 v (omega arith)) refl refl) (omega arith)
 
-pub spell-one : (t : List ℕ) (at d : ℕ) → Begun t at d → Spelling t at 1 d
-spell-one t at d b =
-    record {
-      low = omega arith;
-      high = omega arith;
-      room = b .room;
-      some = b .some;
-      small = omega (arith, b .small);
-      digits = (digit0 + d) ∷ [];
-      spells = let h : d < 10 = omega (arith, b .small) in one h refl;
-      stands = here t at (digit0 + d) (omega (arith, b .room)) (b .byte);
-    }
-
-pub under : {t : List ℕ} {at k v : ℕ} → Spelling t at k v → k < 10 → v < 1000000000
+pub under : {t : List ℕ} {at k v : ℕ} → Begun t at k v → k < 10 → v < 1000000000
 under {t} {at} {k} {v} s h = omega (arith, s .small, powers k 9 (omega arith))
 
-pub spell-more : {t : List ℕ} {at k v : ℕ} (d : ℕ) → Spelling t at k v → k < 10 → isDigit (getD t (at + k) 0) ≡ true → d ≡ getD t (at + k) 0 - digit0
-    → Spelling t at (k + 1) (10 * v + d)
-spell-more {t} {at} {k} {v} d s h e p =
-    let low = digit-low (getD t (at + k) 0) e in
-    let high = digit-high (getD t (at + k) 0) e in
-    let c : getD t (at + k) 0 ≡ digit0 + d = omega arith in
-    let next : at + k + 1 ≡ at + (k + 1) = omega arith in
-    let byte = here t (at + k) (digit0 + d) (omega (arith, s .room)) c in
+-- the first digit
+pub begun-one : (t : List ℕ) (at d : ℕ) → at + 10 ≤ length t → 1 ≤ d → d ≤ 9 → getD t at 0 ≡ digit0 + d → Begun t at 1 d
+begun-one t at d h s l e =
     record {
-      low = omega arith;
-      high = omega arith;
-      room = s .room;
-      some = omega (arith, s .some);
-      small = rw (add-one k) (omega (arith, s .small));
-      digits = s .digits ++ ((digit0 + d) ∷ []);
-      spells = more v d (s .digits) (s .some) (omega arith) (s .spells) refl refl;
-      stands = rw next at (join (s .stands) byte);
+      room = h;
+      most = omega arith;
+      some = s;
+      small = omega arith;
+      stands = rw (decimal-short d (omega arith)) (here t at (digit0 + d) (omega arith) e);
     }
 
-pub spell-found : {t : List ℕ} {at k v : ℕ} → Spelling t at k v → Found t at 10 4294967295 decimal v (at + k)
-spell-found {t} {at} {k} {v} s =
+-- one digit more
+pub begun-more : {t : List ℕ} {at k v : ℕ} (d : ℕ) → Begun t at k v → k < 10 → d ≤ 9 → getD t (at + k) 0 ≡ digit0 + d → Begun t at (k + 1) (10 * v + d)
+begun-more {t} {at} {k} {v} d s h l e =
+    let next : at + k + 1 ≡ at + (k + 1) = omega arith in
+    let byte = here t (at + k) (digit0 + d) (omega (arith, s .room)) e in
     record {
-      within = omega (arith, s .high);
-      sure = λ h. rw (spells-digits 9 (s .spells) (omega arith)) (s .stands);
+      room = s .room;
+      most = omega arith;
+      some = omega (arith, s .some);
+      small = rw (add-one k) (omega (arith, s .small));
+      stands = rw (decimal-more v d (s .some) (under s h) l, ← next) (join (s .stands) byte);
     }
+
+pub begun-next : {t : List ℕ} {at k v : ℕ} (d : ℕ) → Begun t at k v → k < 10 → isDigit (getD t (at + k) 0) ≡ true → d ≡ getD t (at + k) 0 - digit0
+    → Begun t at (k + 1) (10 * v + d)
+begun-next {t} {at} {k} d s h e p =
+    let low = digit-low (getD t (at + k) 0) e in
+    let high = digit-high (getD t (at + k) 0) e in
+    begun-more d s h (omega arith) (omega arith)
+
+pub begun-found : {t : List ℕ} {at k v : ℕ} → Begun t at k v → Found t at 10 4294967295 decimal v (at + k)
+begun-found s = record { within = omega (arith, s .most); sure = λ _. s .stands }
+
+-- four digits at once: the first four, and four more
+pub begun-four : (t : List ℕ) (at n : ℕ) → at + 10 ≤ length t → Four t at n → Digits n → (getD t at 0 ≡ digit0 → ⊥) → Begun t at 4 (spelled n)
+begun-four t at n h f p z =
+    let b = digit-bytes t at n f p in
+    let one = begun-one t at (n % 256) h (omega (arith, b .first)) (p .first) (b .first) in
+    let two = begun-more (n / 256 % 256) one (omega arith) (p .second) (b .second) in
+    let three = begun-more (n / 65536 % 256) two (omega arith) (p .third) (b .third) in
+    let four = begun-more (n / 16777216) three (omega arith) (p .fourth) (b .fourth) in
+    let same : 10 * (10 * (10 * (n % 256) + n / 256 % 256) + n / 65536 % 256) + n / 16777216 ≡ spelled n = omega arith in
+    rw same at four
+
+pub begun-eight : {t : List ℕ} {at v : ℕ} (n : ℕ) → Begun t at 4 v → Four t (at + 4) n → Digits n → Begun t at 8 (10000 * v + spelled n)
+begun-eight {t} {at} {v} n s f p =
+    let b = digit-bytes t (at + 4) n f p in
+    let place : (i : ℕ) → at + 4 + i ≡ at + (4 + i) = λ i. omega arith in
+    let one = begun-more (n % 256) s (omega arith) (p .first) (b .first) in
+    let two = begun-more (n / 256 % 256) one (omega arith) (p .second) (rw (place 1) at (b .second)) in
+    let three = begun-more (n / 65536 % 256) two (omega arith) (p .third) (rw (place 2) at (b .third)) in
+    let four = begun-more (n / 16777216) three (omega arith) (p .fourth) (rw (place 3) at (b .fourth)) in
+    let same : 10 * (10 * (10 * (10 * v + n % 256) + n / 256 % 256) + n / 65536 % 256) + n / 16777216 ≡ 10000 * v + spelled n = omega arith in
+    rw same at four
 
 pub spell-none : (t : List ℕ) (at : ℕ) → at < length t → getD t at 0 ≡ digit0 → Found t at 10 4294967295 decimal 0 (at + 1)
 spell-none t at h e =
     record { within = omega arith; sure = λ _. rw (decimal-short 0 (omega arith)) (here t at digit0 h e) }
 
 pub begins : (t : List ℕ) (at d : ℕ) → at + 10 ≤ length t → isDigit (getD t at 0) ≡ true → (getD t at 0 ≡ digit0 → ⊥) → d ≡ getD t at 0 - digit0
-    → Begun t at d
+    → Begun t at 1 d
 begins t at d h e z p =
     let low = digit-low (getD t at 0) e in
     let high = digit-high (getD t at 0) e in
-    record { room = h; some = omega arith; small = omega arith; byte = omega arith }
+    begun-one t at d h (omega arith) (omega arith) (omega arith)
 
 -- ---- relations
 

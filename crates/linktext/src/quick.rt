@@ -8,10 +8,11 @@ use crate::line::is_digit;
 use crate::line::wide;
 use rules::Link;
 ghost use mathlib.Core.Path.{_≡_};
-ghost use Prim.Native.Nat.{_+_, _≤_};
+ghost use mathlib.Core.Bool.{true};
+ghost use Prim.Native.Nat.{_+_, _≤_, _<_};
 ghost use lib.ListN.{length};
 ghost use Rattle.linktext.specs.Texts.{decimal, relationText};
-ghost use Rattle.linktext.specs.Usual.{Found, Begun, fieldText, endText, Written};
+ghost use Rattle.linktext.specs.Usual.{Found, Begun, Four, Digits, spelled, fieldText, endText, Written};
 
 pub const LF: u8 = b'\n';
 
@@ -30,13 +31,13 @@ pub struct Tried {
     pub end: usize,
 }
 
-// The number whose first digit stands at `at` and is no zero, of at most ten digits.
-fn digits_from(text: &[u8], at: usize, first: u64) -> Step
-    requires { ⌜ Begun (now text) at first ⌝ }
+// The number whose first `from` digits stand at `at` and are those of `begun`, which is no zero; of at most ten digits.
+fn digits_from(text: &[u8], at: usize, from: usize, begun: u64) -> Step
+    requires { ⌜ Begun (now text) at from begun ⌝ }
     ensures { λ r. ⌜ Found (now (text .entry)) at 10 4294967295 decimal (r .value) (r .next) ⌝ }
 {
-    let mut v = first;
-    let mut k = 1;
+    let mut v = begun;
+    let mut k = from;
     while k < 10 {
         let c = text[at + k];
         if !is_digit(c) {
@@ -54,25 +55,78 @@ fn digits_from(text: &[u8], at: usize, first: u64) -> Step
     }
 }
 
-// The number that begins at `at`. After a zero it ends.
+// A byte, below 256.
+fn byte(x: u8) -> u64
+    ensures value { λ r. ⌜ r ≡ x ⌝ }
+    ensures small { λ r. ⌜ r < 256 ⌝ }
+{
+    x as u64
+}
+
+// Four bytes in one number, the first lowest, each less `0`: 0xcfcfcfd0 is 2^32 less four of these.
+fn four_from(text: &[u8], at: usize) -> u64
+    requires { ⌜ at + 4 ≤ length (now text) ⌝ }
+    ensures { λ r. ⌜ Four (now (text .entry)) at r ⌝ }
+{
+    let first = byte(text[at]);
+    let second = byte(text[at + 1]);
+    let third = byte(text[at + 2]);
+    let fourth = byte(text[at + 3]);
+    (first + 256 * second + 65536 * third + 16777216 * fourth + 0xcfcfcfd0) % 0x100000000
+}
+
+// Whether all four are digits: neither they nor six more than they reach 16.
+fn are_digits(four: u64) -> bool
+    requires { ⌜ four < 4294967296 ⌝ }
+    ensures { λ r. ⌜ (r ≡ true → Digits four) ⌝ }
+{
+    ((four | (four + 0x06060606)) & 0xf0f0f0f0) == 0
+}
+
+// What four digits spell: first two pairs, as 2561 is 10 * 256 + 1, then the whole, as 6553601 is 100 * 65536 + 1.
+fn four_value(four: u64) -> u64
+    requires { ⌜ Digits four ⌝ }
+    ensures { λ r. ⌜ r ≡ spelled four ⌝ }
+{
+    let pairs = (2561 * four / 256) & 0x00ff00ff;
+    6553601 * pairs / 65536 % 65536
+}
+
+// The number whose first four digits are those of `begun`; the next four are read at once, if there are four.
+fn rest_from(text: &[u8], at: usize, begun: u64) -> Step
+    requires { ⌜ Begun (now text) at 4 begun ⌝ }
+    ensures { λ r. ⌜ Found (now (text .entry)) at 10 4294967295 decimal (r .value) (r .next) ⌝ }
+{
+    let four = four_from(text, at + 4);
+    if !are_digits(four) {
+        return digits_from(text, at, 4, begun);
+    }
+    digits_from(text, at, 8, 10000 * begun + four_value(four))
+}
+
+// The number that begins at `at`, its first four digits read at once, if there are four. After a zero it ends.
 fn number_from(text: &[u8], at: usize) -> Step
     requires { ⌜ at + 10 ≤ length (now text) ⌝ }
     ensures { λ r. ⌜ Found (now (text .entry)) at 10 4294967295 decimal (r .value) (r .next) ⌝ }
 {
     let lead = text[at];
-    if !is_digit(lead) {
-        return Step {
-            value: MOST + 1,
-            next: at,
-        };
-    }
     if lead == ZERO {
         return Step {
             value: 0,
             next: at + 1,
         };
     }
-    digits_from(text, at, wide(lead - ZERO))
+    let four = four_from(text, at);
+    if are_digits(four) {
+        return rest_from(text, at, four_value(four));
+    }
+    if !is_digit(lead) {
+        return Step {
+            value: MOST + 1,
+            next: at,
+        };
+    }
+    digits_from(text, at, 1, wide(lead - ZERO))
 }
 
 // A number and its bar.
@@ -82,15 +136,16 @@ fn field_from(text: &[u8], at: usize) -> Step
 {
     let number = number_from(text, at);
     let end = number.next;
+    let next = end + 1;
     if text[end] != BAR {
         return Step {
             value: MOST + 1,
-            next: end,
+            next,
         };
     }
     Step {
         value: number.value,
-        next: end + 1,
+        next,
     }
 }
 

@@ -1,6 +1,7 @@
 -- Lists and numbers alone. Assumes nothing.
 use mathlib.Core.Path.{_≡_, refl, sym, _∙_, ap, subst}
 use Prim.Native.Nat.{ℕ, _+_, _*_, _<_, _≤_}
+use native.Mathlib.Nat.{mul-le-mul-right}
 use native.Mathlib.Omega.{arith}
 use mathlib.Core.Bool.{Bool, true, false, cond}
 use mathlib.Core.List.{List, [], _∷_, _++_, map}
@@ -30,9 +31,9 @@ map-id (x ∷ xs) = ap (λ (zs : List ℕ). x ∷ zs) (map-id xs)
 words-length : (w : Words) (vs : List Val) → Is S.the-row w vs → length (w .words) ≡ 4608
 words-length w vs p = sym (ap (λ (xs : List ℕ). length xs) (map-id (w .words))) ∙ LL.owed S.the-type S′.the-laws w vs p .1 .0 .1 .0 .1
 
--- .. so the words of few links are within, and as many are lent
-pub few-within : (w : Words) (vs : List Val) → Is S.the-row w vs → w .count ≤ 1536 → 3 * w .count ≤ length (w .words)
-few-within w vs p few = omega (arith, words-length w vs p)
+-- .. so the words of few links are within, at most three of each, and as many are lent
+pub few-within : (w : Words) (vs : List Val) → Is S.the-row w vs → w .count ≤ 1536 → {k : ℕ} → k ≤ 3 → k * w .count ≤ length (w .words)
+few-within w vs p few h = omega (arith, words-length w vs p, mul-le-mul-right (w .count) h)
 
 pub lent-length : (n : ℕ) (ws : List ℕ) → n ≤ length ws → n ≡ length (take n ws)
 lent-length n ws h = sym (length-take-le n ws h)

@@ -1,5 +1,6 @@
 -- `records::loaded::check_links` meets its contract: too many links are refused as every list of too many is, and few are the words lent.
 use mathlib.Core.Path.{sym}
+use native.Mathlib.Omega.{arith}
 use borrow.Author.Needs.{needs}
 use Rattle.records.proofs.Laws.{few-within, lent-length, holding-many, holding-few}
 use Rattle.records.proofs.ManyLaws.{check-many}
@@ -13,7 +14,7 @@ mul-words : tie.Need-mul-words
 mul-words c = search needs
 
 array-share-prefix-words : tie.Need-array-share-prefix-words
-array-share-prefix-words c = (let start = c .before .before in few-within (start .args .w) _ (start .good .0) (c .before .if1 .left))
+array-share-prefix-words c = (let start = c .before .before in few-within (start .args .w) _ (start .good .0) (c .before .if1 .left) (omega arith))
 
 slice-aggregate-check-links : tie.Need-slice-aggregate-check-links
 slice-aggregate-check-links c = lent-length _ _ (array-share-prefix-words (c .before))

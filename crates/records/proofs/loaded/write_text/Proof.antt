@@ -1,4 +1,5 @@
 -- `records::loaded::write_text` meets its contract: too many links are refused as every list of too many is, and few are the words lent.
+use native.Mathlib.Omega.{arith}
 use borrow.Author.Needs.{needs}
 use Rattle.records.proofs.Laws.{few-within, lent-length, holding-many, holding-few}
 use Rattle.records.proofs.ManyLaws.{text-many}
@@ -12,7 +13,7 @@ mul-words : tie.Need-mul-words
 mul-words c = search needs
 
 array-share-prefix-words : tie.Need-array-share-prefix-words
-array-share-prefix-words c = (let start = c .before .before .before in few-within (start .args .w) _ (start .good .0) (c .before .if1 .left))
+array-share-prefix-words c = (let start = c .before .before .before in few-within (start .args .w) _ (start .good .0) (c .before .if1 .left) (omega arith))
 
 slice-aggregate-write-text : tie.Need-slice-aggregate-write-text
 slice-aggregate-write-text c = lent-length _ _ (array-share-prefix-words (c .before))
