@@ -1,21 +1,20 @@
 -- Marks from single links are hints: whoever is met over a link was met before or is a peer of who is chosen, and one hint after the other
 -- says no more.
-use Prim.Native.Nat.{ℕ, _+_, _*_, _≤_, _<_}
+use Prim.Native.Nat.{ℕ, _<_}
 use mathlib.Core.Path.{_≡_, refl, sym, _∙_, ap, subst}
-use mathlib.Core.Logic.{inl, inr, ⊎-elim}
+use mathlib.Core.Logic.{inl, ⊎-elim}
 use mathlib.Core.Bool.{Bool, true, false, _||_, or-false}
 use mathlib.Core.List.{List, [], _∷_}
 use native.Mathlib.Omega.{arith}
-use lib.ListN.{length}
 use Rattle.rules.specs.Lists.{In}
 use Rattle.rules.specs.Network.{linksOf, linkAt}
 use Rattle.rules.proofs.Tests.{or-one}
 use Rattle.rules.proofs.ListLaws.{anyOf-true}
+use Rattle.offers.proofs.WayLaws.{link-in}
 use Rattle.findings.specs.declared.Parts.{Parts}
 use Rattle.findings.specs.Rooms.{asesIn, flag, Laid, Within}
 use Rattle.findings.specs.Tellings.{tells, heard, Told}
 use Rattle.findings.specs.Joinings.{Hinted}
-use Rattle.findings.proofs.TellerLaws.{link-in}
 use Rattle.findings.proofs.RoomLaws.{within-same, within-more, laid-kept, flag-kept}
 use Rattle.findings.proofs.TellLaws.{heard-same}
 use Rattle.findings.proofs.TopLaws.{peerPass}

@@ -1,18 +1,17 @@
 -- The test `joined` is 'every two different tops are peers', read off pair by pair.
 use Prim.Native.Nat.{ℕ}
-use mathlib.Core.Path.{_≡_, refl, _∙_, ap}
-use mathlib.Core.Logic.{_↔_, inl, inr, _≢_}
+use mathlib.Core.Path.{_≡_, refl}
+use mathlib.Core.Logic.{_↔_, _≢_}
 use mathlib.Core.Bool.{Bool, true, false, not, _&&_, _||_}
-use mathlib.Core.List.{List, [], _∷_}
+use mathlib.Core.List.{List}
 use lib.Dec.{eqb}
 use borrow.Author.Tests.{eqb-false, ne-eqb}
 use Rattle.rules.specs.declared.Link.{Link}
-use Rattle.rules.specs.Lists.{In, allOf}
+use Rattle.rules.specs.Lists.{allOf}
 use Rattle.rules.specs.Network.{asesOf}
 use Rattle.rules.specs.Findings.{isTop, arePeers, Joined, joined}
-use Rattle.rules.proofs.Tests.{and-left, and-right, and-yes}
+use Rattle.rules.proofs.ListLaws.{allOf-each, allOf-true}
 use Rattle.findings.specs.Joinings.{pairJoined, meets}
-use Rattle.findings.proofs.TestLaws.{allOf-each, allOf-true}
 
 -- one pair
 pair-yes : (s t : Bool) (u v : ℕ) (p : Bool) → (not (s && t) || eqb u v || p) ≡ true → s ≡ true → t ≡ true → u ≢ v → p ≡ true

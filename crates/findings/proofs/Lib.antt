@@ -1,4 +1,3 @@
-pub mod TestLaws
 pub mod Chains
 pub mod RingLaws
 pub mod JoinedLaws

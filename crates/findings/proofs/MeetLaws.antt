@@ -12,14 +12,15 @@ use Rattle.rules.specs.Lists.{In, allOf}
 use Rattle.rules.specs.Network.{linksOf}
 use Rattle.rules.specs.Findings.{isTop, arePeers, joined}
 use Rattle.rules.proofs.NetworkLaws.{ases-distinct}
+use Rattle.rules.proofs.ListLaws.{at-in, allOf-each, allOf-true}
+use Rattle.rules.proofs.Tests.{untrue}
 use Rattle.network.proofs.Numbers.{same?}
 use Rattle.offers.specs.Ways.{placeIn}
-use Rattle.offers.proofs.PlaceLaws.{at-in, place-in, place-at}
+use Rattle.offers.proofs.PlaceLaws.{place-in, place-at}
 use Rattle.findings.specs.declared.Parts.{Parts}
 use Rattle.findings.specs.Rooms.{asesIn, flagAt, flag, Within}
 use Rattle.findings.specs.Joinings.{Started, Chosen, Peered, Hinted, metAt, AllMet, pairJoined, meets, Top, Trying, Meeting, Joining}
 use Rattle.findings.specs.Tellings.{heard}
-use Rattle.findings.proofs.TestLaws.{untrue, allOf-each, allOf-true}
 use Rattle.findings.proofs.RoomLaws.{within-same, within-more, within-wider, within-flag, laid-place, flag-kept}
 use Rattle.findings.proofs.TellLaws.{heard-same}
 use Rattle.findings.proofs.TopLaws.{started-kept, heard-peers}

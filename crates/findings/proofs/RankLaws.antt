@@ -4,7 +4,7 @@ use Prim.Native.Nat.{ℕ, zero, suc, _+_, _*_, _≤_, _<_}
 use mathlib.Core.Path.{_≡_, refl, sym, _∙_, ap}
 use mathlib.Core.Logic.{_⊎_, inl, inr, _≢_}
 use mathlib.Core.Bool.{Bool, true}
-use mathlib.Core.List.{List, [], _∷_}
+use mathlib.Core.List.{List}
 use native.Mathlib.Omega.{arith}
 use lib.Dec.{eqb}
 use lib.ListN.{length, getD, set}
@@ -13,12 +13,13 @@ use Rattle.rules.specs.declared.Link.{Link}
 use Rattle.rules.specs.Lists.{In}
 use Rattle.rules.specs.Network.{linksOf, linkAt}
 use Rattle.rules.specs.Findings.{reaches}
+use Rattle.rules.proofs.ListLaws.{in-at}
 use Rattle.network.proofs.PrefixLaws.{count}
 use Rattle.network.proofs.Numbers.{same?}
 use Rattle.offers.specs.Ways.{placeIn, noLink}
 use Rattle.offers.proofs.WayLaws.{links-at}
 use Rattle.findings.specs.declared.Parts.{Parts}
-use Rattle.findings.specs.Rooms.{asesIn, flag, Laid}
+use Rattle.findings.specs.Rooms.{asesIn, Laid}
 use Rattle.findings.specs.Tellings.{teller}
 use Rattle.findings.specs.Peelings.{RingsLeft}
 use Rattle.findings.specs.Ranks.{rankAt, Lower, FallsAt, Falls, Spared}
@@ -27,10 +28,6 @@ use Rattle.findings.proofs.TellerLaws.{place-teller}
 use Rattle.findings.proofs.RoomLaws.{within-same, within-more, within-set, laid-kept}
 
 -- Links by number ---------------------------------------------------------------------------------------------------------
-
-in-at : {A : Type 0} (d : A) (l : List A) (x : A) → In x l → (i : ℕ) × (i < length l) × (getD l i d ≡ x)
-in-at d (y ∷ l) x (inl e) = (0, omega arith, sym e)
-in-at d (y ∷ l) x (inr m) = (let (i, h, e) = in-at d l x m in (suc i, omega arith, e))
 
 link-number : (ws : List ℕ) (l : Link) → In l (linksOf ws) → (i : ℕ) × (3 * i + 3 ≤ length ws) × (linkAt ws i ≡ l)
 link-number ws l m =

@@ -10,17 +10,16 @@ use lib.ListN.{length, getD}
 use Rattle.rules.specs.Lists.{In}
 use Rattle.rules.specs.Network.{linksOf}
 use Rattle.rules.specs.Findings.{ringed}
-use Rattle.rules.proofs.Tests.{and-right, and-yes}
-use Rattle.rules.proofs.ListLaws.{anyOf-true, anyOf-one}
+use Rattle.rules.proofs.Tests.{and-right, and-yes, untrue}
+use Rattle.rules.proofs.ListLaws.{anyOf-true, anyOf-one, at-in}
 use Rattle.rules.proofs.NetworkLaws.{ases-in, ases-distinct}
 use Rattle.offers.specs.Ways.{placeIn}
-use Rattle.offers.proofs.PlaceLaws.{at-in, place-in, place-at}
+use Rattle.offers.proofs.PlaceLaws.{place-in, place-at}
 use Rattle.findings.specs.declared.Parts.{Parts}
 use Rattle.findings.specs.declared.Pass.{Pass}
 use Rattle.findings.specs.Rooms.{asesIn, flagAt, flag, Sized, Laid, Within, Filled, AnySet}
 use Rattle.findings.specs.Tellings.{teller, hearer, tells, Telling, Told}
 use Rattle.findings.specs.Peelings.{onesIn, Fewer, Peeled, hasCustomer, Round, RingsLeft, Bare}
-use Rattle.findings.proofs.TestLaws.{untrue}
 use Rattle.findings.proofs.Chains.{Below, below-link, link-below}
 use Rattle.findings.proofs.RingLaws.{ringed-ring, ring-ringed, reaches-as, ring-next, left-ring}
 use Rattle.findings.proofs.RoomLaws.{within-more, within-wider, within-flag, laid-kept, laid-place, flag-kept, filled-flag}

@@ -11,19 +11,20 @@ use lib.Dec.{eqb}
 use lib.ListN.{length, getD, set}
 use borrow.Author.Tests.{eq-eqb, ne-eqb, eqb-true}
 use Rattle.rules.specs.declared.Link.{Link}
-use Rattle.rules.specs.Lists.{In, anyOf}
+use Rattle.rules.specs.Lists.{In}
 use Rattle.rules.specs.Network.{linksOf, linkAt}
 use Rattle.rules.proofs.Tests.{and-left, and-right}
+use Rattle.rules.proofs.ListLaws.{anyOf-same}
 use Rattle.network.specs.Prefix.{linksFrom}
 use Rattle.network.proofs.Numbers.{same?}
 use Rattle.network.proofs.PrefixLaws.{links-next, links-end}
 use Rattle.offers.specs.Ways.{placeIn}
+use Rattle.offers.proofs.WayLaws.{link-in}
 use Rattle.findings.specs.declared.Parts.{Parts}
 use Rattle.findings.specs.declared.Pass.{Pass}
 use Rattle.findings.specs.Rooms.{asesIn, flagAt, flag, Laid, Within}
 use Rattle.findings.specs.Tellings.{teller, hearer, tells, heard, hasNews, Telling, Told}
-use Rattle.findings.proofs.TestLaws.{anyOf-same}
-use Rattle.findings.proofs.TellerLaws.{place-one, link-in, place-teller, place-hearer, teller-in, hearer-in}
+use Rattle.findings.proofs.TellerLaws.{place-one, place-teller, place-hearer, teller-in, hearer-in}
 use Rattle.findings.proofs.RoomLaws.{within-same, within-more, within-set, laid-kept, laid-place, set-flag, set-other, flag-kept}
 
 -- What one link tells -----------------------------------------------------------------------------------------------------

@@ -12,8 +12,8 @@ use Rattle.rules.specs.Network.{linksOf, linkAt}
 use Rattle.rules.proofs.Tests.{by-cond}
 use Rattle.rules.proofs.NetworkLaws.{ases-in}
 use Rattle.network.proofs.PrefixLaws.{count}
-use Rattle.offers.specs.Ways.{endsOf, placeIn, placesOf, noLink}
-use Rattle.offers.proofs.PlaceLaws.{at-in, place-in, ends-at, places-at}
+use Rattle.offers.specs.Ways.{endsOf, placeIn, placesOf}
+use Rattle.offers.proofs.PlaceLaws.{place-in, ends-at, places-at}
 use Rattle.offers.proofs.WayLaws.{links-at}
 use Rattle.findings.specs.Rooms.{asesIn}
 use Rattle.findings.specs.Tellings.{teller, hearer}
@@ -21,9 +21,6 @@ use Rattle.findings.specs.Tellings.{teller, hearer}
 -- two ASes at one place are one
 pub place-one : (us : List ℕ) (x y : ℕ) → In x us → In y us → placeIn us x ≡ placeIn us y → x ≡ y
 place-one us x y m n e = sym (place-in us x m .1) ∙ ap (λ (k : ℕ). getD us k 0) e ∙ place-in us y n .1
-
-pub link-in : (ws : List ℕ) (i : ℕ) → 3 * i + 3 ≤ length ws → In (linkAt ws i) (linksOf ws)
-link-in ws i h = rw (← links-at ws i h) (at-in noLink (linksOf ws) i (omega (arith, count ws)))
 
 end-at : (ws : List ℕ) (i w : ℕ) → w ≤ 1 → 3 * i + 3 ≤ length ws → getD (endsOf (linksOf ws)) (2 * i + w) 0 ≡ teller w (linkAt ws i)
 unfolding teller

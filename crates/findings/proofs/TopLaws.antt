@@ -14,13 +14,13 @@ use Rattle.rules.specs.declared.Link.{Link}
 use Rattle.rules.specs.Lists.{In, anyOf}
 use Rattle.rules.specs.Network.{linksOf}
 use Rattle.rules.specs.Findings.{provides, peering, isTop, arePeers}
+use Rattle.rules.proofs.ListLaws.{anyOf-same}
 use Rattle.network.proofs.Numbers.{same?}
 use Rattle.findings.specs.declared.Parts.{Parts}
 use Rattle.findings.specs.declared.Pass.{Pass}
 use Rattle.findings.specs.Rooms.{asesIn, flagAt, flag, Laid, Within, Filled}
 use Rattle.findings.specs.Tellings.{teller, hearer, tells, heard, Telling, Told}
 use Rattle.findings.specs.Joinings.{Started, Chosen, Peered}
-use Rattle.findings.proofs.TestLaws.{anyOf-same}
 use Rattle.findings.proofs.RoomLaws.{within-more, within-set, laid-kept, set-flag, set-other, flag-kept, filled-flag}
 use Rattle.findings.proofs.TellLaws.{telling, told-by}
 

@@ -13,22 +13,19 @@ use Rattle.rules.specs.Network.{linksOf, asesOf, arcsOf}
 use Rattle.rules.specs.Stable.{Line, Routing, own, due, tableOf}
 use Rattle.rules.specs.Judge.{Entry, entriesOf, wordsOf, entriesFor, routingOf, bestOffers}
 use Rattle.rules.proofs.StableFaces.{due-own, due-off}
-use Rattle.rules.proofs.LineLaws as lines
+use Rattle.rules.proofs.EntryLaws.{entries-words}
+use Rattle.rules.proofs.ListLaws.{at-in}
+use Rattle.rules.proofs.LineLaws.{table-length, table-entries}
 use Rattle.offers.specs.Lines.{numberAt, lineAt, putLine, printed}
 use Rattle.offers.specs.Ways.{placesOf}
 use Rattle.offers.specs.Passes.{offersTo}
 use Rattle.offers.specs.Placing.{Placing, withPlaces}
 use Rattle.offers.specs.Electing.{Electing, withOffers}
-use Rattle.offers.proofs.PlaceLaws.{at-in, places-length}
-use Rattle.offers.proofs.TableLaws.{table-length, table-number, table-line, table-put}
-use Rattle.rules.proofs.EntryLaws.{entries-words}
+use Rattle.offers.proofs.PlaceLaws.{places-length}
+use Rattle.offers.proofs.TableLaws.{table-number, table-line, table-put}
 use Rattle.judge.specs.Steps.{differFrom, Network, Told, withDue}
 use Rattle.judge.proofs.NetworkLaws.{distinct}
 use Rattle.judge.proofs.DifferLaws.{differ-best}
-
--- a table's entries are its lines
-table-entries : (R : Routing) (us : List ℕ) → entriesOf (tableOf R us) ≡ entriesFor R us
-table-entries R us = ap entriesOf (sym (lines.entries-words R us)) ∙ entries-words (entriesFor R us)
 
 -- What the lines told say --------------------------------------------------------------------------------------------------
 

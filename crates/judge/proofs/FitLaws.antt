@@ -1,6 +1,6 @@
 -- The stable table of links that are words of 32 bits fits the fields of a sheet: its next hops are ASes, and its lengths are below
 -- their number. Read off the settled face of stability.
-use Prim.Native.Nat.{ℕ, suc, _-_, _≤_, _<_}
+use Prim.Native.Nat.{ℕ, suc, _≤_, _<_}
 use mathlib.Core.Path.{_≡_, refl}
 use mathlib.Core.Logic.{inl, inr, ⊎-elim}
 use mathlib.Core.List.{List, [], _∷_}

@@ -4,31 +4,30 @@
 --
 --   stableSheet ws d   the sheet of the stable table of the links ws to the destination d
 use Prim.Native.Nat.{ℕ, _-_, _≤_}
-use mathlib.Core.Path.{_≡_, refl, sym, _∙_, ap, subst}
+use mathlib.Core.Path.{_≡_, sym, _∙_, ap}
 use mathlib.Core.List.{List}
 use native.Mathlib.Omega.{arith}
 use lib.Dec.{leb, eqb}
 use lib.ListN.{length, length-map}
-use borrow.Author.Tests.{eqb-true, eq-eqb, le-leb}
+use borrow.Author.Tests.{le-leb}
 use Rattle.rules.specs.declared.Limits.{Limits}
 use Rattle.rules.specs.declared.Refusal.the-variants.{OverLimit, NoDestination}
 use Rattle.rules.specs.declared.Verdict.{Verdict}
 use Rattle.rules.specs.declared.Verdict.the-variants.{Passes}
 use Rattle.rules.specs.Lists.{In, anyOf}
 use Rattle.rules.specs.Network.{linksOf, asesOf, arcsOf}
-use Rattle.rules.specs.Checks.{baseLimits, checkWords, roomNeed}
+use Rattle.rules.specs.Checks.{baseLimits, roomNeed}
 use Rattle.rules.specs.Entry.{unless, linksFault, destinationFault, roomFault}
 use Rattle.rules.specs.Solve.{stableOf}
 use Rattle.rules.specs.Judge.{Entry, entriesFor}
-use Rattle.rules.proofs.ListLaws.{anyOf-true, anyOf-one}
-use Rattle.rules.proofs.AcceptedLinks.{checkWords-accepted}
+use Rattle.rules.proofs.ListLaws.{member-yes, member-is}
+use Rattle.rules.proofs.AcceptedLinks.{links-few}
 use Rattle.rules.proofs.LineLaws.{entries-numbers}
-use Rattle.rules.proofs.JudgeLaws.{both-pass, test-passes}
 use Rattle.rules.proofs.OneSheet.{passing-only, stable-passes}
+use Rattle.rules.proofs.VerdictLaws.{both-pass, test-passes}
 use Rattle.sheet.specs.Form.{sheetOf, formFault, destinationOf, linesOf}
 use Rattle.sheet.specs.Sizes.{Below}
 use Rattle.sheet.specs.Entries.{judgeReply}
-use Rattle.sheet.proofs.VerdictLaws.{accepted}
 use Rattle.sheet.proofs.RoundTrips.{read-sheet, sheet-read}
 use Rattle.sheet.proofs.Promises.{SheetLimits, base-fits}
 use Rattle.judge.specs.Judging.{Judged}
@@ -58,8 +57,7 @@ judge-accepts limits bound ws s room e =
     let form = both-pass (roomFault (roomNeed (length ls) (length us)) room) _ rooms .1 in
     let dest = both-pass (formFault s) _ form in
     let last = both-pass (destinationFault d us) _ (dest .1) in
-    let one = anyOf-one (eqb d) us (test-passes (anyOf (eqb d) us) Passes NoDestination (last .0) .0) in
-    let has : In d us = subst (λ (x : ℕ). In x us) (sym (eqb-true d (one .0) (one .2))) (one .1) in
+    let has : In d us = member-is d us (test-passes (anyOf (eqb d) us) Passes NoDestination (last .0) .0) in
     let lines = passing-only ls d has bound (linesOf s) (last .1) in
     record { named = has; lines = lines; bytes = λ b. sym (sheet-read s b (dest .0)) ∙ ap (sheetOf d) lines }
 
@@ -82,15 +80,13 @@ judge-stable limits bound ws d room r =
     let us = asesOf ls in
     let es = stableLines ws d in
     let s = stableSheet ws d in
-    let c = accepted (checkWords limits ws) (r .links) in
-    let a = checkWords-accepted limits ws (c .0) (c .1) .1 in
-    let few : length us ≤ limits .ases = omega (arith, a .count, a .few-ases) in
+    let few = links-few limits ws (r .links) in
     let count : length es ≡ length us = sym (length-map es (λ (e : Entry). e .number)) ∙ ap length (entries-numbers (stableOf (arcsOf ls) d) us) in
     let fields = stable-fits ws d (r .named) (r .words) (omega (arith, r .fits .lines)) in
     let back = read-sheet d es (ases-below 4294967296 ws (r .words) d (r .named)) fields (omega (arith, r .fits .lines)) in
     let size = le-leb (length s) (limits .sheet) (omega (arith, back .size, r .fits .bytes)) in
     let enough = le-leb (roomNeed (length ls) (length us)) room (r .enough) in
-    let there = anyOf-true (eqb d) us d (r .named) (eq-eqb d d refl) in
+    let there = member-yes d us (r .named) in
     let lines = stable-passes ls d (r .named) bound (omega (arith, r .longest)) in
     rw (size, r .links, enough, back .form, back .destination, there, back .lines) lines
 

@@ -1,5 +1,5 @@
 -- Refusal 11 of a sheet's lines by the shorter count, and what lines that stand tell: a line for each AS, in order.
-use Prim.Native.Nat.{ℕ, zero, suc, _+_, _*_, _≤_, _<_, min}
+use Prim.Native.Nat.{ℕ, suc, _+_, _*_, _≤_, _<_, min}
 use mathlib.Core.Path.{_≡_, refl, sym, _∙_, ap, subst}
 use mathlib.Core.Logic.{⊎-elim, _≢_}
 use mathlib.Core.Bool.{Bool, true, false}
@@ -11,30 +11,22 @@ use lib.Seq.{take-all, take-at}
 use borrow.Author.Tests.{eqb-true, eqb-false}
 use Rattle.rules.specs.declared.Refusal.the-variants.{CannotStand}
 use Rattle.rules.specs.declared.Verdict.{Verdict}
-use Rattle.rules.specs.declared.Verdict.the-variants.{Passes, Refused}
+use Rattle.rules.specs.declared.Verdict.the-variants.{Passes}
 use Rattle.rules.specs.Lists.{In, Distinct}
 use Rattle.rules.specs.Entry.{andThen, unless}
 use Rattle.rules.specs.Judge.{Entry, entriesOf, wordsOf, entriesFor, routingOf, stands, standingFrom, standing}
 use Rattle.rules.proofs.LineLaws as lines
-use Rattle.rules.proofs.JudgeLaws.{test-passes, stands-is, standing-numbers}
+use Rattle.rules.proofs.JudgeLaws.{stands-is, standing-numbers}
+use Rattle.rules.proofs.EntryLaws.{entries-words, length-words}
+use Rattle.rules.proofs.VerdictLaws.{test-passes, then-passes}
+use Rattle.rules.proofs.Tests.{clash}
 use Rattle.sheet.specs.Form.{lineCount, linesFrom, linesOf}
 use Rattle.sheet.specs.Places.{over}
-use Rattle.rules.proofs.EntryLaws.{entries-words, length-words}
-use Rattle.sheet.proofs.FormLaws.{length-linesFrom}
+use Rattle.sheet.proofs.FormLaws.{length-linesFrom, lines-take}
 use Rattle.sheet.proofs.StandingLaws.{same-count, standing-shorter}
 use Rattle.judge.specs.Steps.{Told}
 
 -- By the shorter count -----------------------------------------------------------------------------------------------------
-
-lines-take : (k n : ℕ) (s : List ℕ) → k ≤ n → take k (linesFrom n s) ≡ linesFrom k s
-unfolding linesFrom
-lines-take zero n s h = refl
-lines-take (suc k) zero s h = absurd (omega arith)
-lines-take (suc k) (suc n) s h = rw (lines-take k n (drop 11 s) (omega arith))
-
-then-passes : (v : Verdict) → andThen v Passes ≡ v
-then-passes Passes = refl
-then-passes (Refused r) = refl
 
 by-counts : (bound : ℕ) (us s : List ℕ) (k : ℕ) → k ≡ min (length us) (lineCount s)
     → andThen (standing bound (take k us) (linesFrom k (drop 10 s))) (unless (eqb (lineCount s) (length us)) (CannotStand k)) ≡ standing bound us (linesOf s)
@@ -48,7 +40,7 @@ by-counts bound us s k h = rw (← lines-take k (lineCount s) (drop 10 s) (omega
     go true e =
         let same = eqb-true (lineCount s) (length us) e in
         let all = length-linesFrom (lineCount s) (drop 10 s) in
-        rw (take-all k us (omega arith), take-all k es (omega arith)) (then-passes (standing bound us es))
+        rw (take-all k us (omega arith), take-all k es (omega arith)) (then-passes (standing bound us es) Passes (λ _. refl))
     go false e =
         let place : 0 + k ≡ k = omega arith in
         let all = length-linesFrom (lineCount s) (drop 10 s) in
@@ -73,7 +65,7 @@ lines-judged bound us s k old {t} {v} h e f =
 
 standing-short : (bound i : ℕ) (us : List ℕ) (es : List Entry) → standingFrom bound i us es ≡ Passes → (e : Entry) → In e es → e .line .pair .length ≤ bound
 unfolding standingFrom
-standing-short bound i [] (x ∷ es) p e m = (let z : _≡_ {A = ℕ} 0 1 = cc in absurd (omega arith))
+standing-short bound i [] (x ∷ es) p e m = clash (cc)
 standing-short bound i (u ∷ us) (x ∷ es) p e m =
     let t = test-passes (stands bound u x) (standingFrom bound (suc i) us es) (CannotStand i) p in
     ⊎-elim (λ q. rw q (stands-is bound u x (t .0) .short)) (standing-short bound (suc i) us es (t .1) e) m

@@ -14,15 +14,11 @@ use lib.ListN.{length, length-append}
 use lib.Seq.{append-snoc}
 use borrow.Author.Tests.{ltb-true, ltb-false, leb-true, eqb-false, not-true, lt-ltb, le-ltb, le-leb, ne-eqb}
 use Rattle.rules.specs.Lists.{allOf}
-use Rattle.rules.proofs.Tests.{by-cond, and-left, and-right}
+use Rattle.rules.proofs.Tests.{by-cond, and-left, and-right, clash}
 use Rattle.linktext.specs.declared.Numeral.{Numeral}
 use Rattle.linktext.specs.declared.Numeral.the-variants.{Value, NoForm, OverLarge}
 use Rattle.linktext.specs.Lines.{digit0, digit9, isDigit, valueFrom, inForm, numeralOf}
 use Rattle.linktext.specs.Texts.{digits, decimal}
-
--- two constructors are never equal: `clash (cc)`
-pub clash : {A : Type 0} → _≡_ {A = ℕ} 0 1 → A
-clash e = absurd (omega arith)
 
 pub data Spells : ℕ → List ℕ → Type 0 where
   one : {n : ℕ} {f : List ℕ} → n < 10 → f ≡ (digit0 + n) ∷ [] → Spells n f

@@ -13,11 +13,10 @@ use Rattle.rules.specs.declared.Checked.the-variants.{Accepted, Refused}
 use Rattle.rules.specs.declared.Verdict.{Verdict}
 use Rattle.rules.specs.declared.Verdict.the-variants as verdict
 use Rattle.rules.specs.Network.{linksOf}
-use Rattle.rules.proofs.Tests.{by-cond}
+use Rattle.rules.proofs.Tests.{by-cond, clash}
+use Rattle.rules.proofs.StoreLaws.{sets-front}
 use Rattle.linktext.specs.Texts.{textOf, relationFault, textFault}
 use Rattle.linktext.specs.Entries.{fitted, filled, writeReply, bytesAfter}
-use Rattle.linktext.proofs.DigitLaws.{clash}
-use Rattle.linktext.proofs.StoreLaws.{sets-front}
 
 -- ---- room
 
@@ -31,7 +30,7 @@ pub filled-short : (out old : List ℕ) → length old < length out → filled o
 filled-short out old h = simp (lt-ltb (length old) (length out) h)
 
 pub filled-room : (out old : List ℕ) → length out ≤ length old → filled out old ≡ sets old 0 out
-filled-room out old h = simp (le-ltb (length old) (length out) h) (sym (sets-front old out h))
+filled-room out old h = simp (le-ltb (length old) (length out) h) (sym (sets-front out old h))
 
 -- ---- the words
 

@@ -3,12 +3,12 @@
 --   written-reads      words of 32 bits that are not refused are read back from their text
 --   read-passes        the words of a text that reads are not refused
 --   read-writes        .. and are written as the text without comments
-use Prim.Native.Nat.{ℕ, suc, _*_, _%_, _≤_, _<_}
+use Prim.Native.Nat.{ℕ, suc, _%_, _≤_, _<_}
 use mathlib.Core.Path.{_≡_, _∙_, refl, ap}
 use mathlib.Core.Logic.{inl, inr, ⊎-elim}
 use mathlib.Core.List.{List, [], _∷_}
 use native.Mathlib.Omega.{arith}
-use lib.Dec.{ltb, eqb}
+use lib.Dec.{ltb}
 use lib.ListN.{length}
 use borrow.Author.Tests.{eq-eqb, le-ltb, ltb-false}
 use Rattle.rules.specs.declared.Link.{Link}
@@ -17,10 +17,10 @@ use Rattle.rules.specs.declared.Verdict.{Verdict}
 use Rattle.rules.specs.declared.Verdict.the-variants.{Passes}
 use Rattle.rules.specs.Lists.{In}
 use Rattle.rules.specs.Network.{linksOf, flat}
-use Rattle.rules.proofs.Tests.{by-cond}
+use Rattle.rules.proofs.Tests.{by-cond, clash}
+use Rattle.rules.proofs.NetworkLaws.{linksOf-flat, flat-length}
 use Rattle.linktext.specs.Texts.{links, textIn, textOf, relationFault, textFault, withoutComments}
 use Rattle.linktext.specs.Plain.{Plain}
-use Rattle.linktext.proofs.DigitLaws.{clash}
 use Rattle.linktext.proofs.EntryLaws.{passes-count, passes-relations}
 use Rattle.linktext.proofs.RoundTrips.{read-write, write-read, read-plain, read-count}
 
@@ -53,16 +53,6 @@ written-reads limits ws h e b = read-write limits (linksOf ws) plain (passes-cou
 
 -- ---- read, then written
 
-flat-links : (ls : List Link) → linksOf (flat ls) ≡ ls
-unfolding linksOf flat
-flat-links [] = refl
-flat-links (l ∷ ls) = ap (λ (x : List Link). l ∷ x) (flat-links ls)
-
-flat-length : (ls : List Link) → length (flat ls) ≡ 3 * length ls
-unfolding flat
-flat-length [] = refl
-flat-length (l ∷ ls) = omega (arith, flat-length ls)
-
 plain-passes : (i : ℕ) (ls : List Link) → ((l : Link) → In l ls → Plain l) → relationFault i ls ≡ Passes
 unfolding relationFault
 plain-passes i [] p = refl
@@ -72,7 +62,7 @@ pub read-passes : (limits : Limits) (t : List ℕ) (ls : List Link) → textIn l
 unfolding textFault
 read-passes limits t ls e =
     simp
-    (eq-eqb (length (flat ls) % 3) 0 (omega (arith, flat-length ls)), flat-links ls, le-ltb (limits .links) (length ls) (read-count limits t ls e), plain-passes 0 ls (read-plain limits t ls e))
+    (eq-eqb (length (flat ls) % 3) 0 (omega (arith, flat-length ls)), linksOf-flat ls, le-ltb (limits .links) (length ls) (read-count limits t ls e), plain-passes 0 ls (read-plain limits t ls e))
 
 pub read-writes : (limits : Limits) (t : List ℕ) (ls : List Link) → textIn limits t ≡ links ls → textOf (linksOf (flat ls)) ≡ withoutComments t
-read-writes limits t ls e = ap textOf (flat-links ls) ∙ write-read limits t ls e
+read-writes limits t ls e = ap textOf (linksOf-flat ls) ∙ write-read limits t ls e

@@ -13,7 +13,7 @@ use lib.ListN.{length}
 use borrow.Author.Tests.{eqb-true, ne-eqb}
 use Rattle.rules.specs.declared.Link.{Link}
 use Rattle.rules.specs.Lists.{allOf, Without}
-use Rattle.rules.proofs.Tests.{by-cond, and-left, and-right}
+use Rattle.rules.proofs.Tests.{by-cond, and-left, and-right, clash}
 use Rattle.linktext.specs.declared.LineRead.{LineRead}
 use Rattle.linktext.specs.declared.LineRead.the-variants.{Reads}
 use Rattle.linktext.specs.declared.Numeral.{Numeral}
@@ -21,7 +21,7 @@ use Rattle.linktext.specs.declared.Numeral.the-variants.{Value, NoForm, 
 use Rattle.linktext.specs.Lines.{hash, minus, bar, digit0, digit9, isDigit, numeralOf, beforeBar, After, ends, rest, afterBar, Related, related, unrelated, relationOf, readEnd, readThird, thirdField, readSecond, secondField, readFirst, readLine}
 use Rattle.linktext.specs.Texts.{decimal, relationText}
 use Rattle.linktext.specs.Plain.{Plain, lineBody}
-use Rattle.linktext.proofs.DigitLaws.{clash, Spells, Numbered, spells-formed, spells-numeral, numeral-spells, decimal-spells, spells-digits, digit-low, digit-high}
+use Rattle.linktext.proofs.DigitLaws.{Spells, Numbered, spells-formed, spells-numeral, numeral-spells, decimal-spells, spells-digits, digit-low, digit-high}
 
 -- ---- signs that stand in no field
 

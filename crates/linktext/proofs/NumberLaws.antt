@@ -6,9 +6,9 @@
 --   numeral-..         what a field in form gives
 --   relation-..        what field 3 gives
 use mathlib.Core.Path.{_≡_, refl, sym, ap, _∙_}
-use mathlib.Core.Bool.{Bool, true, false, cond, not, _&&_}
+use mathlib.Core.Bool.{Bool, true, false, cond, not, _&&_, and-true}
 use mathlib.Core.List.{List, [], _∷_}
-use Prim.Native.Nat.{ℕ, zero, suc, _+_, _-_, _*_, _≤_, _<_}
+use Prim.Native.Nat.{ℕ, suc, _+_, _-_, _*_, _≤_, _<_}
 use native.Mathlib.Numerals.{add-one}
 use native.Mathlib.Omega.{arith}
 use lib.Dec.{leb, eqb}
@@ -17,6 +17,7 @@ use lib.Seq.{drop-cons}
 use borrow.Author.Tests.{leb-true, eq-eqb, ne-eqb, le-leb, lt-leb}
 use Rattle.rules.specs.Lists.{allOf}
 use Rattle.rules.proofs.Tests.{and-left, and-right}
+use Rattle.rules.proofs.ListLaws.{allOf-each, at-in}
 use Rattle.linktext.specs.declared.Numeral.the-variants.{Value, NoForm, OverLarge}
 use Rattle.linktext.specs.Lines.{digit0, minus, isDigit, valueFrom, inForm, numeralOf, relationOf, related, unrelated}
 use Rattle.linktext.specs.Fields.{capped}
@@ -28,17 +29,11 @@ pub all-goes : (f : ℕ → Bool) (l : List ℕ) (i : ℕ) → i < length l → 
 all-goes f l i h e = simp (add-one, drop-cons l i 0 h, e)
 
 pub all-at : (f : ℕ → Bool) (l : List ℕ) (i : ℕ) → i < length l → allOf f l ≡ true → f (getD l i 0) ≡ true
-all-at f [] i h e = absurd (omega arith)
-all-at f (x ∷ l) zero h e = and-left (f x) (allOf f l) e
-all-at f (x ∷ l) (suc i) h e = all-at f l i (omega arith) (and-right (f x) (allOf f l) e)
+all-at f l i h e = allOf-each f l e (getD l i 0) (at-in 0 l i h)
 
 pub digit-low : (c : ℕ) → isDigit c ≡ true → 48 ≤ c
 unfolding isDigit
 digit-low c e = leb-true 48 c (and-left (leb 48 c) (leb c 57) e)
-
-and-true : (t : Bool) → t && true ≡ t
-and-true true = refl
-and-true false = refl
 
 pub form-none : (l : List ℕ) → length l ≡ 0 → inForm l ≡ false
 unfolding inForm

@@ -55,4 +55,4 @@ pub network-below : (b : ℕ) (limits : Limits) (t : List ℕ) → limits .text 
 unfolding networkFault
 network-below b limits t h k =
     then-below b (textFault (textIn limits t)) (verdictOf (checkLinks limits (linksOfText limits t))) (text-below b limits t h)
-    (check-below b limits (linksOfText limits t) (omega arith) k)
+    (λ e. check-below b limits (linksOfText limits t) (omega arith) k)

@@ -16,13 +16,12 @@ use Rattle.rules.specs.declared.Link.{Link}
 use Rattle.rules.specs.declared.Limits.{Limits}
 use Rattle.rules.specs.Lists.{In}
 use Rattle.rules.specs.Checks.{baseLimits}
-use Rattle.rules.proofs.Tests.{by-cond}
+use Rattle.rules.proofs.Tests.{by-cond, clash}
 use Rattle.linktext.specs.declared.LineRead.{LineRead}
 use Rattle.linktext.specs.declared.LineRead.the-variants.{Skip, Reads, Faulty}
 use Rattle.linktext.specs.Lines.{readLine}
 use Rattle.linktext.specs.Texts.{linesOf, TextRead, links, refused, andLink, takeLine, readLines, textIn, textOf, keepLines, withoutComments}
 use Rattle.linktext.specs.Plain.{Plain}
-use Rattle.linktext.proofs.DigitLaws.{clash}
 use Rattle.linktext.proofs.LineLaws.{line-reads, reads-line}
 use Rattle.linktext.proofs.TextLaws.{text-line, lines-text, text-bound, reads-kept, skip-left}
 

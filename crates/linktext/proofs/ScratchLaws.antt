@@ -1,6 +1,6 @@
 -- Laws of links as words, three per link.
 --
---   length-flat        how many words; more-words   the words with one more link
+--   more-words         the words with one more link
 --   copy-more          one word more copied
 --   not-filled, is-filled   lent words after an output that does not fit, and that does
 --   Got x n ws         reading gave x: n links, whose words stand first in ws; got, lost   from the scratch and the reply
@@ -17,15 +17,12 @@ use Rattle.rules.specs.declared.Refusal.{Refusal}
 use Rattle.rules.specs.declared.Checked.{Checked}
 use Rattle.rules.specs.declared.Checked.the-variants.{Accepted, Refused}
 use Rattle.rules.specs.Network.{flat}
+use Rattle.rules.proofs.Tests.{clash}
+use Rattle.rules.proofs.NetworkLaws.{flat-length}
 use Rattle.linktext.specs.Texts.{TextRead, links, refused}
 use Rattle.linktext.specs.Entries.{filled}
 use Rattle.network.specs.Promises.{withLink}
 use Rattle.linktext.specs.Scratch.{ReadInto}
-
-pub length-flat : (ls : List Link) → length (flat ls) ≡ 3 * length ls
-unfolding flat
-length-flat [] = refl
-length-flat (l ∷ ls) = omega (arith, length-flat ls)
 
 flat-more : (ls : List Link) (l : Link) → flat (ls ++ (l ∷ [])) ≡ flat ls ++ (l .a ∷ l .b ∷ l .relation ∷ [])
 unfolding flat
@@ -37,7 +34,7 @@ pub more-words : (ls : List Link) (l : Link) (old ws : List ℕ) (n : ℕ) → l
 more-words ls l old ws n c h s e =
     let i = 3 * n in
     let vs : List ℕ = l .a ∷ l .b ∷ l .relation ∷ [] in
-    let len : length (flat ls) ≡ i = omega (arith, length-flat ls) in
+    let len : length (flat ls) ≡ i = omega (arith, flat-length ls) in
     let one : i + 1 ≡ suc i = omega arith in
     let two : i + 2 ≡ suc (suc i) = omega arith in
     let all : i + 3 ≡ 3 * (n + 1) = omega arith in
@@ -71,7 +68,7 @@ pub record Got (x : TextRead) (n : ℕ) (ws : List ℕ) : Type 0 where
 pub got : (x : TextRead) (old ws : List ℕ) (r : Checked) (n : ℕ) → ReadInto x old ws r → r ≡ Accepted n → Got x n ws
 got (links ls) old ws r n (p, q) e =
     let c : length ls ≡ n = cc in
-    let len = length-flat ls in
+    let len = flat-length ls in
     record {
       list = ls;
       whole = refl;
@@ -79,7 +76,7 @@ got (links ls) old ws r n (p, q) e =
       room = omega (arith, ap length q, length-append (flat ls) (drop (3 * length ls) old));
       words = rw q (take-at (flat ls) (drop (3 * length ls) old) (3 * n) (omega arith));
     }
-got (refused why) old ws r n p e = absurd (let z : _≡_ {A = ℕ} 0 1 = cc in omega arith)
+got (refused why) old ws r n p e = clash (cc)
 
 pub lost : (x : TextRead) (old ws : List ℕ) (r : Checked) (why : Refusal) → ReadInto x old ws r → r ≡ Refused why → x ≡ refused why
 lost (links ls) old ws r why (p, q) e = cc

@@ -1,20 +1,15 @@
--- Stores one after the other: what two runs of stores leave, and a run whose last store is made first.
+-- Stores one after the other: a run whose last store is made first, runs with their places, and the digits of a number.
 use Prim.Native.Nat.{ℕ, suc, _+_, _/_, _%_, _≤_, _<_}
 use mathlib.Core.Path.{_≡_, _∙_, refl, sym, ap}
 use mathlib.Core.List.{List, [], _∷_, _++_}
 use native.Mathlib.Omega.{arith}
-use lib.ListN.{length, set, drop, length-append}
-use lib.Seq.{sets, sets-eq, length-sets, set-comm}
+use lib.ListN.{length, set, length-append}
+use lib.Seq.{sets, length-sets, set-comm}
+use Rattle.rules.proofs.StoreLaws.{sets-append}
 use Rattle.linktext.specs.Stored.{Stored}
 use Rattle.linktext.specs.Lines.{digit0}
 use Rattle.linktext.specs.Texts.{decimal}
 use Rattle.linktext.proofs.DigitLaws.{decimal-short, decimal-long, long-count}
-
-pub sets-append : (l : List ℕ) (i : ℕ) (xs ys : List ℕ) → sets l i (xs ++ ys) ≡ sets (sets l i xs) (i + length xs) ys
-sets-append l i [] ys = let e : i ≡ i + 0 = omega arith in ap (λ (k : ℕ). sets l k ys) e
-sets-append l i (x ∷ xs) ys =
-    let e : suc i + length xs ≡ i + suc (length xs) = omega arith in
-    sets-append (set l i x) (suc i) xs ys ∙ ap (λ (k : ℕ). sets (sets (set l i x) (suc i) xs) k ys) e
 
 -- a store beyond a run can be made before it
 set-past : (l : List ℕ) (i : ℕ) (xs : List ℕ) (p y : ℕ) → i + length xs ≤ p → set (sets l i xs) p y ≡ sets (set l p y) i xs
@@ -23,13 +18,7 @@ set-past l i (x ∷ xs) p y h = set-past (set l i x) (suc i) xs p y (omega arith
 
 -- the last store of a run made first
 pub last-first : (l : List ℕ) (i : ℕ) (xs : List ℕ) (y : ℕ) → sets l i (xs ++ (y ∷ [])) ≡ sets (set l (i + length xs) y) i xs
-last-first l i xs y = sets-append l i xs (y ∷ []) ∙ set-past l i xs (i + length xs) y (omega arith)
-
--- a run from the front that fits
-pub sets-front : (l out : List ℕ) → length out ≤ length l → sets l 0 out ≡ out ++ drop (length out) l
-sets-front l out h =
-    let e : 0 + length out ≡ length out = omega arith in
-    sets-eq out l 0 (omega arith) ∙ ap (λ (k : ℕ). out ++ drop k l) e
+last-first l i xs y = sym (sets-append xs (y ∷ []) l i (i + length xs) refl) ∙ set-past l i xs (i + length xs) y (omega arith)
 
 -- ---- runs of stores with their places
 
@@ -41,7 +30,7 @@ pub stored-on : {a b : List ℕ} {at p : ℕ} {xs : List ℕ} (ys : List ℕ) �
 stored-on {a} {b} {at} {p} {xs} ys s =
     let u = s .after in
     let v = s .bytes in
-    rw (u, v) (sym (sets-append a at xs ys))
+    rw (u, v) (sets-append xs ys a at (at + length xs) refl)
 
 pub stored-then : {a b c : List ℕ} {at p q : ℕ} {xs ys : List ℕ} → Stored a at xs b p → Stored b p ys c q → Stored a at (xs ++ ys) c q
 stored-then {a} {b} {c} {at} {p} {q} {xs} {ys} s t =

@@ -13,14 +13,13 @@ use lib.ListN.{length, length-append}
 use borrow.Author.Tests.{eq-eqb, ne-eqb}
 use Rattle.rules.specs.declared.Link.{Link}
 use Rattle.rules.specs.Lists.{Without}
-use Rattle.rules.proofs.Tests.{by-cond}
+use Rattle.rules.proofs.Tests.{by-cond, clash}
 use Rattle.linktext.specs.declared.LineRead.the-variants.{Skip, Reads}
 use Rattle.linktext.specs.declared.Numeral.{Numeral}
 use Rattle.linktext.specs.declared.Numeral.the-variants.{Value, NoForm, OverLarge}
 use Rattle.linktext.specs.Lines.{lf, hash, minus, bar, digit0, numeralOf, beforeBar, After, ends, rest, afterBar, Related, related, unrelated, relationOf, readEnd, readThird, thirdField, readSecond, secondField, readFirst, readLine}
 use Rattle.linktext.specs.Texts.{linesOf, digits, decimal, relationText, lineText, textOf, keepLine}
 use Rattle.linktext.specs.Plain.{Plain, lineBody}
-use Rattle.linktext.proofs.DigitLaws.{clash}
 use Rattle.linktext.proofs.LineLaws.{body-without}
 
 -- ---- lines

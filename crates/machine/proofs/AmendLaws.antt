@@ -22,9 +22,9 @@ use Rattle.rules.specs.Network.{linksOf, asesOf}
 use Rattle.rules.specs.Stable.{Line, lineOf}
 use Rattle.rules.specs.Machine.{State}
 use Rattle.rules.proofs.Faces.{Le}
-use Rattle.rules.proofs.OfferLaws.{pair-same, ext-cell, ext-range, extension-is, extension-none, heard-own, heard-cases}
-use Rattle.rules.proofs.OfferLaws.{Less, le-refl, le-trans, le-antisym, less-apart, better-less, choose-le, choose-one}
-use Rattle.rules.proofs.BestLaws.{Best, Source, nowhere, from-arc, best-is, best-source, best-le, elect-start, heard-same}
+use Rattle.rules.proofs.OfferLaws.{ext-cell, ext-range, extension-is, extension-none, heard-own, heard-cases}
+use Rattle.rules.proofs.OfferLaws.{Less, le-refl, le-trans, less-apart, better-less, choose-le, choose-one}
+use Rattle.rules.proofs.BestLaws.{Best, Source, nowhere, from-arc, best-is, best-source, heard-same, best-le-none, best-alike}
 use Rattle.rules.proofs.ArcLaws.{Directed, direction-unique, arcs-rank}
 use Rattle.rules.proofs.MachineLaws.{lineOver}
 use Rattle.offers.specs.declared.Way.{Way}
@@ -49,10 +49,6 @@ Named net = (a : Arc) → In a net → a .rank ≡ a .neighbour
 abbrev pub over : (ℕ → TypeLength) → Arc → TypeLength
 over h a = h (a .direction)
 
-pub best-le-none : (told : Arc → TypeLength) (u : ℕ) (net : List Arc) → Le (best told u net) (none u)
-unfolding best
-best-le-none told u net = elect-start told u (none u) net
-
 module _ {net : List Arc} (named : Named net) {told : Arc → TypeLength} {u : ℕ} where
   -- the best offer is the one that its line stands for
   pub best-standing : {o : Offer} → Best told u net o → asOffer (offerOf (o .pair) (o .next)) ≡ o
@@ -69,19 +65,7 @@ module _ {net : List Arc} (named : Named net) {told : Arc → TypeLength} {u : �
 
   -- and the only one, also where two arcs join the same ASes
   best-only : {o p : Offer} → Best told u net o → Best told u net p → o ≡ p
-  unfolding none
-  best-only {o} {p} b c = go (best-source b) (best-source c)
-    where
-      same : (o .pair .typ ≡ p .pair .typ) × (o .pair .length ≡ p .pair .length) × (o .rank ≡ p .rank)
-      same = le-antisym (best-le b p c) (best-le c o b)
-
-      go : Source told u net o → Source told u net p → o ≡ p
-      go (nowhere e) (nowhere f) = e ∙ sym f
-      go (nowhere e) (from-arc a m h v) = absurd (omega (arith, same .0, ap (λ (x : Offer). x .pair .typ) e, ext-range (v .ext)))
-      go (from-arc a m h v) (nowhere f) = absurd (omega (arith, same .0, ap (λ (x : Offer). x .pair .typ) f, ext-range (v .ext)))
-      go (from-arc a m h v) (from-arc a′ m′ h′ v′) =
-          let n : o .next ≡ p .next = v .next ∙ sym (named a m) ∙ sym (v .rank) ∙ same .2 ∙ v′ .rank ∙ named a′ m′ ∙ sym (v′ .next) in
-          λ i. record { pair = pair-same (same .0, same .1) i; rank = same .2 i; next = n i }
+  best-only b c = best-alike b c (λ a a′ m m′ h r. sym (named a m) ∙ r ∙ named a′ m′)
 
 -- h and h′: the pairs held before and after, which differ on arc a's direction alone
 module _ (net : List Arc) (unique : Directed net) (a : Arc) (has : In a net) {u : ℕ} (own : a .hearer ≡ u) (h h′ : ℕ → TypeLength)
@@ -113,7 +97,7 @@ module _ (net : List Arc) (unique : Directed net) (a : Arc) (has : In a net) {u 
       late l = less-apart less (le-trans l (rw new-heard at (b′ .least a has)))
 
       go : (q ≡ none u) ⊎ ((b : Arc) × In b net × (q ≡ heard (over h′) u b)) → q ≡ offer a (h′ (a .direction))
-      go (inl e) = absurd (late (rw e (best-le-none (over h) u net)))
+      go (inl e) = absurd (late (rw e (best-le-none (best-is (over h) u net))))
       go (inr (b, m, e)) =
           ⊎-elim (λ f. e ∙ ap (heard (over h′) u) f ∙ new-heard)
           (λ f. (let g : q ≡ heard (over h) u b = e ∙ f in absurd (late (rw g (best-is (over h) u net .least b m))))) (still b m)
@@ -206,7 +190,7 @@ module _ {ws : List ℕ} {m k : ℕ} {w : Way} {t r f : List ℕ} (g : Amending 
 
       chosen : {z : Offered} → choose (asOffer y) (asOffer x) ≡ asOffer z → asOffer z ≡ choose old offered
       chosen e =
-          let fair : Fair y = le-fair hearer (rw standing (best-le-none (over h) hearer (netOf ws))) in
+          let fair : Fair y = le-fair hearer (rw standing (best-le-none (best-is (over h) hearer (netOf ws)))) in
           let told : pairOf (heldAt m r k) ≡ s .held (arc .direction) =
           holds .held k (g .direction) ∙ ap (s .held) (sym (laid-direction (g .laid) k (g .direction))) in
           considered fair new e .chosen arc (laid-over (g .laid) k (g .direction) (g .way) refl)

@@ -9,29 +9,29 @@ use native.Mathlib.Decide.{decLt}
 use lib.Dec.{eqb, ltb, leb}
 use lib.ListN.{length, getD, take, drop, replicate, drop-of-length-le}
 use lib.Seq.{drop-cons, getD-take}
-use borrow.Author.Tests.{eqb-true, eq-eqb, ne-eqb, lt-ltb, le-ltb, ltb-true, le-leb, lt-leb}
+use borrow.Author.Tests.{eq-eqb, ne-eqb, lt-ltb, le-ltb, ltb-true, le-leb, lt-leb}
 use Rattle.rules.specs.declared.Refusal.{Refusal}
 use Rattle.rules.specs.declared.Refusal.the-variants.{OverLimit, NoDestination, OutputShort, RoomShort, NoDirection}
 use Rattle.rules.specs.declared.Checked.{Checked}
 use Rattle.rules.specs.declared.Verdict.{Verdict}
 use Rattle.rules.specs.declared.Verdict.the-variants.{Passes, Refused}
 use Rattle.rules.specs.declared.Checked.the-variants as checked
-use Rattle.rules.specs.Lists.{anyOf}
 use Rattle.rules.specs.Network.{linksOf, asesOf}
 use Rattle.rules.specs.Checks.{baseLimits, checkWords, roomNeed}
 use Rattle.rules.specs.Entry.{andThen, verdictOf}
 use Rattle.rules.specs.Stable.{tableOf}
 use Rattle.rules.specs.Machine.{Run, runOf, lowest, isQuiet}
-use Rattle.rules.proofs.ListLaws.{anyOf-true, anyOf-one}
-use Rattle.rules.proofs.NetworkLaws.{flat-linksOf, flat-length}
+use Rattle.rules.specs.Ascending.{Ascending}
+use Rattle.rules.proofs.ListLaws.{member-yes, member-no}
 use Rattle.rules.proofs.AcceptedLinks.{checkWords-accepted}
+use Rattle.rules.proofs.NetworkLaws.{ases-ascending}
+use Rattle.rules.proofs.LineLaws.{table-length}
+use Rattle.rules.proofs.VerdictLaws.{not-passes}
 use Rattle.network.specs.declared.Place.{Place}
 use Rattle.network.specs.declared.Place.the-variants.{At, Nowhere}
-use Rattle.rules.specs.Ascending.{Ascending}
 use Rattle.network.specs.Promises.{Listed, Stands}
-use Rattle.rules.proofs.NetworkLaws.{ases-ascending}
 use Rattle.network.proofs.ListedLaws.{listed-front, listed-ascends, placed, unplaced}
-use Rattle.offers.proofs.TableLaws.{table-length}
+use Rattle.network.proofs.PrefixLaws.{count}
 use Rattle.machine.specs.declared.Ran.{Ran}
 use Rattle.machine.specs.declared.Counts.{Counts}
 use Rattle.machine.specs.declared.Ran.the-variants as ran
@@ -68,9 +68,6 @@ module _ {directions : ℕ} {cs : List ℕ} {i : ℕ} (g : ChoicesTo directions 
   unfolding choiceFrom
   choices-all h = ap (choiceFrom directions i) (sym (drop-of-length-le cs h)) ∙ g .rest
 
-passes-not : (r : Refusal) → Refused r ≡ Passes → ⊥
-passes-not r e = (let z : _≡_ {A = ℕ} 0 1 = cc in omega arith)
-
 choices-good : (directions j : ℕ) (cs : List ℕ) → choiceFrom directions j cs ≡ Passes → (i : ℕ) → i < length cs → getD cs i 0 < directions
 unfolding choiceFrom
 choices-good directions j [] e i h = absurd (omega arith)
@@ -79,7 +76,7 @@ choices-good directions j (c ∷ cs) e i h = go (ltb c directions) refl e (choic
     go : (b : Bool) → ltb c directions ≡ b → cond b (choiceFrom directions (suc j) cs) (Refused (NoDirection j)) ≡ Passes
         → (choiceFrom directions (suc j) cs ≡ Passes → (i : ℕ) → i < length cs → getD cs i 0 < directions)
         → (i : ℕ) → i < suc (length cs) → getD (c ∷ cs) i 0 < directions
-    go false t f rest i h = absurd (passes-not (NoDirection j) f)
+    go false t f rest i h = absurd (not-passes (NoDirection j) f)
     go true t f rest zero h = ltb-true c directions t
     go true t f rest (suc i) h = rest f i (omega arith)
 
@@ -188,16 +185,7 @@ module _ {ws cs : List ℕ} {n : ℕ} (g : Looking ws cs n) {l u : List ℕ} {k 
   module _ (d : ℕ) (p : Place) (stands : Stands u k d p) where
     pub no-destination : p ≡ Nowhere → (t r : List ℕ)
         → NetworkAnswer ws d cs n t r (ran.Refused NoDestination) t r
-    no-destination e t r = refused ws d cs n t r (rw (go (anyOf (eqb d) us) refl))
-      where
-        us : List ℕ
-        us = asesOf (linksOf ws)
-
-        go : (b : Bool) → anyOf (eqb d) us ≡ b → anyOf (eqb d) us ≡ false
-        go false f = f
-        go true f =
-            let (x, m, same) = anyOf-one (eqb d) us f in
-            absurd (unplaced fits listed d (subst (Stands u k d) e stands) (rw (eqb-true d x same) m))
+    no-destination e t r = refused ws d cs n t r (rw (member-no d (asesOf (linksOf ws)) (unplaced fits listed d (subst (Stands u k d) e stands))))
 
     module _ {i : ℕ} (e : p ≡ At i) where
       here : Stands u k d (At i)
@@ -213,7 +201,7 @@ module _ {ws cs : List ℕ} {n : ℕ} (g : Looking ws cs n) {l u : List ℕ} {k 
           → MemoryAnswer ws i cs n t r out t′ r′
           → NetworkAnswer ws d cs n t r out t′ r′
       at-destination t r o =
-          rw (anyOf-true (eqb d) (asesOf (linksOf ws)) d (placed fits listed d i here) (eq-eqb d d refl)) (rw its-number at o)
+          rw (member-yes d (asesOf (linksOf ws)) (placed fits listed d i here)) (rw its-number at o)
 
 -- 1 to 6
 module _ (ws : List ℕ) (d : ℕ) (cs : List ℕ) (n : ℕ) (t r : List ℕ) where
@@ -245,7 +233,7 @@ module _ (ws : List ℕ) (d : ℕ) (cs : List ℕ) (n : ℕ) (t r : List ℕ) wh
       may-look {known} e =
           let (whole, ok) = checkWords-accepted baseLimits ws known (sym check ∙ e) in
           record {
-            words = ap length (sym (flat-linksOf ws whole)) ∙ flat-length (linksOf ws);
+            words = omega (arith, count ws, whole);
             few-links = ok .few-links;
             few-ases = omega (arith, ok .count, ok .few-ases);
             few-choices = few;

@@ -8,4 +8,5 @@ pub mod DeliverLaws
 pub mod RunLaws
 pub mod StartLaws
 pub mod AnswerLaws
+pub mod ReplyLaws
 pub mod QuietRuns

@@ -1,34 +1,23 @@
 -- Whenever a run reports quiet, the lent table holds the stable routing, whatever the choices: the definition's run ends on it
 -- (`run-quiet`), and the table has the run's lines. And the promise leaves nothing open: two answers to one input agree.
-use Prim.Native.Nat.{ℕ, _*_, _≤_}
+use Prim.Native.Nat.{ℕ, _*_}
 use mathlib.Core.Path.{_≡_, sym, _∙_, ap}
 use mathlib.Core.Bool.{true}
 use mathlib.Core.List.{List}
-use native.Mathlib.Omega.{arith}
 use lib.ListN.{length, take, drop}
 use lib.Seq.{take-at}
 use Rattle.rules.specs.declared.Limits.{Limits}
-use Rattle.rules.specs.declared.Verdict.{Verdict}
-use Rattle.rules.specs.declared.Verdict.the-variants.{Passes, Refused}
-use Rattle.rules.specs.Lists.{In}
-use Rattle.rules.specs.Offers.{Arc}
 use Rattle.rules.specs.Network.{linksOf, asesOf, arcsOf}
 use Rattle.rules.specs.Stable.{Routing, tableOf}
 use Rattle.rules.specs.Solve.{stableOf}
-use Rattle.rules.specs.Machine.{Run, lowest, isQuiet}
-use Rattle.rules.proofs.ArcLaws.{arcs-cost, direction-unique}
+use Rattle.rules.proofs.ArcLaws.{direction-unique, arcs-positive}
 use Rattle.rules.proofs.MachineRuns.{run-quiet}
-use Rattle.offers.proofs.TableLaws.{table-length}
+use Rattle.rules.proofs.LineLaws.{table-length}
 use Rattle.machine.specs.declared.Ran.{Ran}
 use Rattle.machine.specs.declared.Ran.the-variants as ran
-use Rattle.machine.specs.Entries.{runFault, runOn, replyRun, runReply, tableAfter}
+use Rattle.machine.specs.Entries.{runFault, runOn, runReply, tableAfter}
 use Rattle.machine.specs.Answers.{Answered}
-
--- a reply that is no refusal says what the run says, and the verdict passed
-reply-ran : (ws : List ℕ) (run : Run) (v : Verdict) (made idle : ℕ) → replyRun ws run v ≡ ran.Ran made idle true
-    → (v ≡ Passes) × (isQuiet (lowest (arcsOf (linksOf ws)) (run .state .waiting)) ≡ true)
-reply-ran ws run Passes made idle e = (cc, cc)
-reply-ran ws run (Refused why) made idle e = (cc, cc)
+use Rattle.machine.proofs.ReplyLaws.{reply-ended}
 
 module _ (limits : Limits) (ws : List ℕ) (d : ℕ) (cs : List ℕ) (n : ℕ) (t r : List ℕ) where
   -- the first four words per AS are the stable table's
@@ -39,10 +28,9 @@ module _ (limits : Limits) (ws : List ℕ) (d : ℕ) (cs : List ℕ) (n : ℕ) (
       let net = arcsOf (linksOf ws) in
       let us = asesOf (linksOf ws) in
       let lines = runOn ws d cs n .state .lines in
-      let (passes, quiet) = reply-ran ws (runOn ws d cs n) (runFault limits ws d cs n (length t) (length r)) made idle e in
-      let pos : (a : Arc) → In a net → 1 ≤ a .cost = (λ a i. omega (arith, arcs-cost (linksOf ws) a i)) in
-      rw passes (take-at (tableOf lines us) (drop (length (tableOf lines us)) t) (4 * length us) (table-length lines us))
-      ∙ ap (λ (R : Routing). tableOf R us) (run-quiet net (direction-unique (linksOf ws)) pos d cs n quiet)
+      let ended = reply-ended ws (runOn ws d cs n) (runFault limits ws d cs n (length t) (length r)) made idle true e in
+      rw (ended .passes) (take-at (tableOf lines us) (drop (length (tableOf lines us)) t) (4 * length us) (table-length lines us))
+      ∙ ap (λ (R : Routing). tableOf R us) (run-quiet net (direction-unique (linksOf ws)) (arcs-positive (linksOf ws)) d cs n (sym (ended .waits-not)))
 
   module _ {out : Ran} {t′ r′ : List ℕ} (a : Answered limits ws d cs n t r out t′ r′) where
     -- the same of what the code answers

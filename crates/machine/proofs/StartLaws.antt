@@ -15,13 +15,14 @@ use Rattle.rules.specs.Machine.{nothing, fresh, started}
 use Rattle.rules.proofs.ArcLaws.{direction-unique}
 use Rattle.rules.proofs.MachineLaws.{fresh-sound}
 use Rattle.rules.proofs.MachineCounts.{fresh-short}
+use Rattle.rules.proofs.LineLaws.{table-length}
 use Rattle.offers.specs.Lines.{freshLines}
 use Rattle.offers.specs.Ways.{placesOf}
 use Rattle.offers.specs.Steps.{Placed}
 use Rattle.offers.specs.Placing.{withPlaces}
 use Rattle.offers.proofs.PlaceLaws.{places-length}
 use Rattle.offers.proofs.WayLaws.{way-arc}
-use Rattle.offers.proofs.TableLaws.{table-length, table-number}
+use Rattle.offers.proofs.TableLaws.{table-number}
 use Rattle.machine.specs.Room.{pairWord, pairOf, waitOf, heldAt, waitAt, netOf, asesIn, asAt, Flagged, Laid}
 use Rattle.machine.specs.Steps.{Sending, Sent}
 use Rattle.machine.specs.Index.{Indexing, IndexLaid}

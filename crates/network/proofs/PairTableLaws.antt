@@ -2,7 +2,7 @@
 -- passed every link that could, since homes do not go by the order of the ends.
 use Prim.Native.Nat.{ℕ, zero, suc, _+_, _-_, _*_, _<_}
 use mathlib.Core.Path.{_≡_, refl, sym, ap, _∙_, subst}
-use mathlib.Core.Logic.{_⊎_, inl, inr, ⊎-elim, _≢_}
+use mathlib.Core.Logic.{⊎-elim, _≢_}
 use mathlib.Core.Bool.{Bool, true, false, _||_, or-true}
 use mathlib.Core.List.{List}
 use native.Mathlib.Nat.{lt-irrefl, mul-comm}
@@ -14,16 +14,12 @@ use Rattle.rules.specs.declared.Link.{Link}
 use Rattle.rules.specs.Lists.{anyOf}
 use Rattle.rules.specs.Network.{linkAt}
 use Rattle.rules.specs.Checks.{samePair}
-use Rattle.rules.proofs.Tests.{and-left, and-right}
+use Rattle.rules.proofs.Tests.{and-left, and-right, or-one}
 use Rattle.network.specs.Prefix.{seenAt}
 use Rattle.network.specs.Slots.{slot, filled, spreadOf, Stopped, Stored, Room}
 use Rattle.network.specs.Tables.{folded, pairHome, isPair, linkHome, Pairs, Places, Pairing, Paired}
 use Rattle.network.proofs.Numbers.{same?}
 use Rattle.network.proofs.SlotLaws.{filled-set, filled-none, slot-none, set-here, set-other, put, absent, stopped-hit, at-home, never}
-
-either : (s t : Bool) → (s || t) ≡ true → (s ≡ true) ⊎ (t ≡ true)
-either true t e = inl refl
-either false t e = inr e
 
 -- the same pair has the same home
 same-product : (l k : Link) → samePair l k ≡ true → k .a * k .b ≡ l .a * l .b
@@ -35,7 +31,7 @@ same-product l k e = ⊎-elim
     (λ s. let p : l .a ≡ k .b = eqb-true _ _ (and-left (eqb (l .a) (k .b)) (eqb (l .b) (k .a)) s) in
     let q : l .b ≡ k .a = eqb-true _ _ (and-right (eqb (l .a) (k .b)) (eqb (l .b) (k .a)) s) in
     cc (mul-comm (k .a) (k .b)))
-    (either _ _ e)
+    (or-one _ _ e)
 
 same-home : (homes : ℕ) (l k : Link) → samePair l k ≡ true → pairHome homes k ≡ pairHome homes l
 unfolding pairHome

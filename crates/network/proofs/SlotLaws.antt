@@ -3,7 +3,7 @@
 use Prim.Native.Nat.{ℕ, zero, suc, _+_, _≤_, _<_}
 use mathlib.Core.Path.{_≡_, refl, sym, ap, _∙_, subst}
 use mathlib.Core.Logic.{⊎-elim, _≢_}
-use mathlib.Core.Bool.{Bool, true, false, not, _||_}
+use mathlib.Core.Bool.{Bool, true, false, not}
 use mathlib.Core.List.{List, [], _∷_}
 use native.Mathlib.Nat.{lt-irrefl, not-suc-le-zero, le-of-suc-le-suc}
 use native.Mathlib.Omega.{arith}
@@ -11,6 +11,7 @@ use lib.Dec.{eqb}
 use lib.ListN.{length, set, replicate}
 use lib.Seq.{getD-set-same, getD-set-other}
 use borrow.Author.Tests.{not-true, not-false, eqb-false, eq-eqb, ne-eqb}
+use Rattle.rules.proofs.Tests.{clash, or-no}
 use Rattle.network.specs.Slots.{slot, filled, stopsAt, Run, Reached, Seated, Passed, Stopped, Room}
 use Rattle.network.proofs.Numbers.{below?, same?}
 
@@ -57,10 +58,6 @@ run-short (x ∷ t) (suc h) (suc s) b f = omega (
 )
 
 -- a search
-neither : (a b : Bool) → (a || b) ≡ false → (a ≡ false) × (b ≡ false)
-neither true b e = (e, cc)
-neither false b e = (refl, e)
-
 pub pass-none : (hit : ℕ → Bool) (t : List ℕ) (h : ℕ) → Passed hit t h h
 pass-none hit t h = record {
   start = omega arith;
@@ -70,7 +67,7 @@ pass-none hit t h = record {
 
 pass-more : {hit : ℕ → Bool} {t : List ℕ} {h s : ℕ} → Passed hit t h s → stopsAt hit t s ≡ false → Passed hit t h (s + 1)
 pass-more {hit} {t} {h} {s} p e =
-    let n : (eqb (slot t s) 0 ≡ false) × (hit (slot t s) ≡ false) = neither _ _ e in
+    let n : (eqb (slot t s) 0 ≡ false) × (hit (slot t s) ≡ false) = or-no _ _ e in
     record {
       start = omega (arith, p .start);
       run = λ u g l z. ⊎-elim
@@ -145,4 +142,4 @@ pub at-home : {hit : ℕ → Bool} {t : List ℕ} {h g r : ℕ} → h ≡ g → 
 at-home {hit} {t} {h} {g} {r} e p = subst (λ (k : ℕ). Stopped hit t k r) e p
 
 pub never : {X : Type 0} (b : Bool) → b ≡ true → b ≡ false → X
-never b p q = absurd (let z : _≡_ {A = ℕ} 0 1 = cc in omega arith)
+never b p q = clash (cc)

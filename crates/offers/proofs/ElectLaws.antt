@@ -14,9 +14,8 @@ use borrow.Author.Tests.{lt-ltb}
 use Rattle.rules.specs.declared.TypeLength.{TypeLength}
 use Rattle.rules.specs.Lists.{In}
 use Rattle.rules.specs.Offers.{Arc, Offer, none, offer, choose, heard, elect, best}
-use Rattle.rules.proofs.Faces.{Le}
 use Rattle.rules.proofs.OfferLaws.{ext-range, heard-own, heard-other, choose-keeps}
-use Rattle.rules.proofs.BestLaws.{elect-start, Source, nowhere, from-arc, best-is, best-source}
+use Rattle.rules.proofs.BestLaws.{Source, nowhere, from-arc, best-is, best-source, best-le-none}
 use Rattle.offers.specs.Passes.{asOffer}
 use Rattle.offers.specs.Steps.{offerOf, Fair}
 use Rattle.offers.proofs.ConsiderLaws.{le-fair}
@@ -34,10 +33,6 @@ module _ (told : Arc → TypeLength) (u : ℕ) where
   elect-last x [] a = refl
   elect-last x (b ∷ net) a = elect-last (choose x (heard told u b)) net a
 
-  pub best-le-none : (net : List Arc) → Le (best told u net) (none u)
-  unfolding best
-  best-le-none net = elect-start told u (none u) net
-
   -- one arc more
   pub best-more : (net : List Arc) (d : Arc) (k : ℕ) → k < length net
       → best told u (take (k + 1) net) ≡ choose (best told u (take k net)) (heard told u (getD net k d))
@@ -52,7 +47,7 @@ module _ (told : Arc → TypeLength) (u : ℕ) where
     pub best-other : getD net k d .hearer ≢ u → best told u (take (k + 1) net) ≡ best told u (take k net)
     best-other ne =
         best-more net d k h ∙ ap (choose (best told u (take k net))) (heard-other told u (getD net k d) ne)
-        ∙ choose-keeps (best told u (take k net)) (none u) (best-le-none (take k net))
+        ∙ choose-keeps (best told u (take k net)) (none u) (best-le-none (best-is told u (take k net)))
 
   -- where arcs are ranked by their neighbours, the pair and the next hop say which offer it was
   module _ (net : List Arc) (ranked : (a : Arc) → In a net → a .rank ≡ a .neighbour) where
@@ -70,4 +65,4 @@ module _ (told : Arc → TypeLength) (u : ℕ) where
     best-line = λ i. record { pair = best told u net .pair; rank = sym rank-is i; next = best told u net .next }
 
     pub best-fair : Fair (offerOf (best told u net .pair) (best told u net .next))
-    best-fair = le-fair u (rw best-line (best-le-none net))
+    best-fair = le-fair u (rw best-line (best-le-none (best-is told u net)))

@@ -8,7 +8,6 @@ use native.Mathlib.Decide.{decLt}
 use lib.ListN.{length, getD, set, take, drop, length-append, length-take, length-drop}
 use lib.Seq.{length-take-le, take-length, take-at, getD-take}
 use Rattle.rules.specs.declared.Link.{Link}
-use Rattle.rules.specs.Lists.{In}
 use Rattle.rules.specs.Network.{linksOf, linkAt, asesOf}
 use Rattle.rules.proofs.NetworkLaws.{Ends, ases-ascending, ases-in}
 use Rattle.network.specs.declared.Place.{Place}
@@ -20,8 +19,8 @@ use Rattle.network.proofs.PrefixLaws.{count}
 use Rattle.offers.specs.Ways.{endsOf, placeIn, placesOf, noLink}
 use Rattle.offers.specs.Steps.{Placed}
 use Rattle.offers.specs.Placing.{Among, Placing, putEnds, withPlaces}
-use Rattle.offers.proofs.PlaceLaws.{at-in, place-in, places-length}
-use Rattle.offers.proofs.WayLaws.{links-at}
+use Rattle.offers.proofs.PlaceLaws.{place-in, places-length}
+use Rattle.offers.proofs.WayLaws.{link-in}
 use Rattle.offers.proofs.FillLaws.{fill-two}
 
 -- What a search says ------------------------------------------------------------------------------------------------------
@@ -57,8 +56,7 @@ module _ {ws l : List ℕ} {n : ℕ} {ps : List ℕ} (w : Placing ws l n ps) whe
 
   pub ends-among : (i x : ℕ) → i < length (linksOf ws) → Ends x (linkAt ws i) → Among l n x
   ends-among i x h e =
-      let is = links-at ws i (omega (arith, count ws)) in
-      let m : In (linkAt ws i) (linksOf ws) = rw is at (at-in noLink (linksOf ws) i h) in
+      let m = link-in ws i (omega (arith, count ws)) in
       record {
         within = ases-within;
         few = w .few;

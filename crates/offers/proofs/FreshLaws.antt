@@ -13,9 +13,10 @@ use Rattle.rules.specs.declared.TypeLength.{TypeLength}
 use Rattle.rules.specs.Pairs.{originOf, unreachableOf}
 use Rattle.rules.specs.Stable.{Line, Routing, own, lost, tableOf}
 use Rattle.rules.proofs.Tests.{changed-same, changed-other}
+use Rattle.rules.proofs.LineLaws.{table-length, table-append, table-one, table-beyond}
 use Rattle.offers.specs.Lines.{numberAt, lineAt, putEntry, freshLines}
 use Rattle.offers.proofs.FillLaws.{fill-four}
-use Rattle.offers.proofs.TableLaws.{table-length, table-append, table-one, table-number, table-line, table-beyond}
+use Rattle.offers.proofs.TableLaws.{table-number, table-line}
 
 -- Entries --------------------------------------------------------------------------------------------------------------------
 

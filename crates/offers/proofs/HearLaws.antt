@@ -14,6 +14,7 @@ use Rattle.rules.specs.Network.{asesOf, arcsOf}
 use Rattle.rules.specs.Stable.{Line, lineOf, told, tableOf}
 use Rattle.rules.proofs.NetworkLaws.{ases-distinct}
 use Rattle.rules.proofs.ArcLaws.{arcs-length, arcs-rank}
+use Rattle.rules.proofs.LineLaws.{table-length}
 use Rattle.offers.specs.declared.Way.{Way}
 use Rattle.offers.specs.declared.Offered.{Offered}
 use Rattle.offers.specs.Lines.{numberAt, pairAt, lineAt, putLine, printed}
@@ -21,9 +22,9 @@ use Rattle.offers.specs.Ways.{noArc, arcAt, wayAt}
 use Rattle.offers.specs.Passes.{asOffer}
 use Rattle.offers.specs.Steps.{offerOf, OverWay, toldOver, Telling}
 use Rattle.offers.specs.Electing.{offerAt, keepBetter, bestAfter, withHeard, Hearer, Hearing}
-use Rattle.offers.proofs.PlaceLaws.{places-length}
+use Rattle.offers.proofs.PlaceLaws.{placed-long}
 use Rattle.offers.proofs.WayLaws.{WayArc, way-arc, way-over}
-use Rattle.offers.proofs.TableLaws.{table-length, table-line, table-put, printed-at}
+use Rattle.offers.proofs.TableLaws.{table-line, table-put, printed-at}
 use Rattle.offers.proofs.ConsiderLaws.{considered}
 use Rattle.offers.proofs.ElectLaws.{take-in, best-own, best-other, best-line, best-fair}
 
@@ -40,7 +41,7 @@ module _ {ls : List Link} {ps t b : List ℕ} {k : ℕ} (w : Hearing ls ps t b k
   sofar u = best tells u (take k (arcsOf ls))
 
   pub places-long : 2 * length ls ≤ length ps
-  places-long = omega (arith, simp length-take at (ap length (w .pass .placed)), places-length (asesOf ls) ls)
+  places-long = placed-long ls ps (w .pass .placed)
 
   best-long : 4 * length (asesOf ls) ≤ length b
   best-long =

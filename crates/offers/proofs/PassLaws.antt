@@ -14,9 +14,9 @@ use Rattle.rules.specs.Offers.{Arc, none, elect, best}
 use Rattle.rules.specs.Network.{asesOf, arcsOf}
 use Rattle.rules.specs.Stable.{lost, lineOf, told, tableOf}
 use Rattle.rules.proofs.ArcLaws.{arcs-length}
+use Rattle.rules.proofs.LineLaws.{table-length, table-same}
 use Rattle.offers.specs.Lines.{numberAt, putEntry, printed}
 use Rattle.offers.specs.Electing.{numbersOf, bestAfter, withHeard, withOffers, Electing, Hearing}
-use Rattle.offers.proofs.TableLaws.{table-length, table-same}
 use Rattle.offers.proofs.FreshLaws.{LaidTo, laid-none, laid-rest, laid-more}
 
 -- Entries without offers --------------------------------------------------------------------------------------------------

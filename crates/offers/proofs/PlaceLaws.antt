@@ -1,24 +1,20 @@
 -- Places: where x stands in a list of different numbers is the one index that holds x, and word k of the places is that of the end that
 -- tells over direction k. By induction along the lists.
-use Prim.Native.Nat.{ℕ, zero, suc, _+_, _*_, _<_}
+use Prim.Native.Nat.{ℕ, zero, suc, _+_, _*_, _<_, _≤_}
 use mathlib.Core.Path.{_≡_, refl, sym, _∙_, ap}
 use mathlib.Core.Logic.{inl, inr, _≢_}
 use mathlib.Core.List.{List, [], _∷_, map}
 use native.Mathlib.Omega.{arith}
 use native.Mathlib.Decide.{ℕ-discrete}
-use lib.ListN.{length, getD, length-map}
+use lib.ListN.{length, getD, length-map, length-take}
 use borrow.Author.Tests.{eq-eqb, ne-eqb}
 use Rattle.rules.specs.declared.Link.{Link}
 use Rattle.rules.specs.Lists.{In, Without, Distinct}
+use Rattle.rules.specs.Network.{asesOf}
 use Rattle.offers.specs.Ways.{endsOf, placeIn, placesOf, noLink}
+use Rattle.offers.specs.Steps.{Placed}
 
--- what stands at an index of a list is a member
-pub at-in : {A : Type 0} (d : A) (l : List A) (i : ℕ) → i < length l → In (getD l i d) l
-at-in d [] i h = absurd (omega arith)
-at-in d (x ∷ l) zero h = inl refl
-at-in d (x ∷ l) (suc i) h = inr (at-in d l i (omega arith))
-
--- and is none of those that it differs from
+-- what stands at an index of a list is none of those that it lacks
 pub without-at : {A : Type 0} (d x : A) (l : List A) → Without x l → (i : ℕ) → i < length l → x ≢ getD l i d
 without-at d x [] w i h = absurd (omega arith)
 without-at d x (y ∷ l) w zero h = w .0
@@ -77,6 +73,9 @@ getD-map f (x ∷ l) (suc k) h = getD-map f l k (omega arith)
 pub places-length : (us : List ℕ) (ls : List Link) → length (placesOf us ls) ≡ 2 * length ls
 unfolding placesOf
 places-length us ls = length-map (endsOf ls) (placeIn us) ∙ ends-length ls
+
+pub placed-long : (ls : List Link) (ps : List ℕ) → Placed ls ps → 2 * length ls ≤ length ps
+placed-long ls ps e = omega (arith, length-take (2 * length ls) ps, ap length e, places-length (asesOf ls) ls)
 
 pub places-at : (us : List ℕ) (ls : List Link) (k : ℕ) → k < 2 * length ls → getD (placesOf us ls) k 0 ≡ placeIn us (getD (endsOf ls) k 0)
 unfolding placesOf

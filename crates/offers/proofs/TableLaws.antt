@@ -1,16 +1,16 @@
 -- Tables by entry: entry i of a table is the line of AS i, a line that is put changes that line alone, and what a table with different
 -- ASes prints for AS i is its entry i. By induction along the ASes.
-use Prim.Native.Nat.{ℕ, zero, suc, _+_, _-_, _*_, _≤_, _<_}
+use Prim.Native.Nat.{ℕ, zero, suc, _+_, _*_, _≤_, _<_}
 use mathlib.Core.Path.{_≡_, refl, sym, _∙_, ap}
 use mathlib.Core.Logic.{_≢_}
 use mathlib.Core.List.{List, [], _∷_, _++_}
 use native.Mathlib.Omega.{arith}
-use lib.ListN.{length, getD, drop, length-append}
-use lib.Seq.{getD-append-add, getD-drop}
+use lib.ListN.{length, getD, length-append}
 use borrow.Author.Tests.{eq-eqb, ne-eqb}
 use Rattle.rules.specs.Lists.{In, Without, Distinct}
 use Rattle.rules.specs.Stable.{Line, Routing, lost, tableOf}
 use Rattle.rules.specs.Judge.{entriesOf, routingOf}
+use Rattle.rules.proofs.LineLaws.{table-length, table-same}
 use Rattle.offers.specs.Lines.{numberAt, lineAt, putLine, printed}
 use Rattle.offers.specs.Ways.{placeIn}
 use Rattle.offers.proofs.PlaceLaws.{without-at, place-in}
@@ -34,28 +34,6 @@ module _ (a b c d : ℕ) (t : List ℕ) (i : ℕ) where
   put-next l = rw (four-on i 1, four-on i 2, four-on i 3)
 
 -- Tables of a routing ------------------------------------------------------------------------------------------------------
-
-pub table-length : (R : Routing) (us : List ℕ) → length (tableOf R us) ≡ 4 * length us
-unfolding tableOf
-table-length R [] = refl
-table-length R (u ∷ us) = omega (arith, table-length R us)
-
-pub table-append : (R : Routing) (us vs : List ℕ) → tableOf R (us ++ vs) ≡ tableOf R us ++ tableOf R vs
-unfolding tableOf
-table-append R [] vs = refl
-table-append R (u ∷ us) vs = ap (λ (t : List ℕ). u ∷ R u .pair .typ ∷ R u .pair .length ∷ R u .next ∷ t) (table-append R us vs)
-
-pub table-one : (R : Routing) (u : ℕ) → tableOf R (u ∷ []) ≡ u ∷ R u .pair .typ ∷ R u .pair .length ∷ R u .next ∷ []
-unfolding tableOf
-table-one R u = refl
-
--- tables of two routings that agree on the ASes
-pub table-same : (R S : Routing) (us : List ℕ) → ((i : ℕ) → i < length us → R (getD us i 0) ≡ S (getD us i 0)) → tableOf R us ≡ tableOf S us
-unfolding tableOf
-table-same R S [] same = refl
-table-same R S (u ∷ us) same =
-    let e : R u ≡ S u = same 0 (omega arith) in
-    rw (e, table-same R S us (λ i h. same (suc i) (omega arith)))
 
 module _ (R : Routing) (rest : List ℕ) where
   pub table-number : (us : List ℕ) (i : ℕ) → i < length us → numberAt (tableOf R us ++ rest) i ≡ getD us i 0
@@ -81,15 +59,6 @@ module _ (R : Routing) (rest : List ℕ) where
   table-put S (u ∷ us) d (suc i) h other =
       let e : S u ≡ R u = other u (without-at 0 u us (d .0) i (omega arith)) in
       put-next u _ _ _ (tableOf R us ++ rest) i (S (getD us i 0)) ∙ rw (e, table-put S us (d .1) i (omega arith) other)
-
--- the words beyond the last entry
-pub table-beyond : (R : Routing) (us old : List ℕ) (w : ℕ) → 4 * length us ≤ w → getD (tableOf R us ++ drop (4 * length us) old) w 0 ≡ getD old w 0
-table-beyond R us old w h =
-    let k = w - 4 * length us in
-    let e : w ≡ length (tableOf R us) + k = omega (arith, table-length R us) in
-    let f : 4 * length us + k ≡ w = omega arith in
-    ap (λ (x : ℕ). getD (tableOf R us ++ drop (4 * length us) old) x 0) e ∙ getD-append-add (tableOf R us) (drop (4 * length us) old) k 0
-    ∙ getD-drop (4 * length us) old k 0 ∙ ap (λ (x : ℕ). getD old x 0) f
 
 -- What a table prints --------------------------------------------------------------------------------------------------------
 

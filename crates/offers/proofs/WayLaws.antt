@@ -17,12 +17,14 @@ use Rattle.rules.specs.Offers.{Arc}
 use Rattle.rules.specs.Network.{linksOf, linkAt, asesOf, aToB, bToA, arcsFrom, arcsOf}
 use Rattle.rules.proofs.Tests.{tests, by-cond}
 use Rattle.rules.proofs.ArcLaws.{arcs-length, arcs-ends, arcs-rank}
+use Rattle.rules.proofs.ListLaws.{at-in}
 use Rattle.network.specs.Promises.{HasLink}
+use Rattle.network.proofs.PrefixLaws.{count}
 use Rattle.offers.specs.declared.Way.{Way}
 use Rattle.offers.specs.Ways.{endsOf, placeIn, noArc, noLink, arcAt, partner, wayAt}
 use Rattle.offers.specs.Steps.{OverWay, Placed}
 use Rattle.offers.specs.Placing.{kindOver}
-use Rattle.offers.proofs.PlaceLaws.{at-in, place-in, two-on, ends-at, places-at}
+use Rattle.offers.proofs.PlaceLaws.{place-in, two-on, ends-at, places-at}
 
 -- Links by index ---------------------------------------------------------------------------------------------------------
 
@@ -41,6 +43,9 @@ links-at (a ∷ []) i h = absurd (omega arith)
 links-at (a ∷ b ∷ []) i h = absurd (omega arith)
 links-at (a ∷ b ∷ r ∷ ws) zero h = refl
 links-at (a ∷ b ∷ r ∷ ws) (suc i) h = links-at ws i (omega arith) ∙ sym (link-next a b r ws i)
+
+pub link-in : (ws : List ℕ) (i : ℕ) → HasLink ws i → In (linkAt ws i) (linksOf ws)
+link-in ws i h = rw (← links-at ws i h) (at-in noLink (linksOf ws) i (omega (arith, count ws)))
 
 -- Arcs by index ------------------------------------------------------------------------------------------------------------
 

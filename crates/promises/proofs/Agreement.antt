@@ -1,33 +1,33 @@
 -- Every promise says enough: any two replies that a public function's contract allows agree, and so do the lent words and bytes that
 -- it leaves. Where reply and memory are given by equations it is one law, `once`; the stable table's is by 'the table of a stable routing',
--- of which there is exactly one (`stable-unique`).
+-- of which there is exactly one (`stable-words`).
 --
 --   once, twice        what equals one value is one; the same of a reply and of lent memory
 --   CheckLinks .. Run  the contracts of the entries, with the limits of document 01
 --   .. -once           any two outcomes that such a contract allows agree
 use Prim.Native.Nat.{ℕ}
-use mathlib.Core.Path.{_≡_, sym, _∙_, ap}
-use mathlib.Core.List.{List, _++_}
-use lib.ListN.{length, drop}
+use mathlib.Core.Path.{_≡_, sym, _∙_}
+use mathlib.Core.List.{List}
+use lib.ListN.{length}
 use Rattle.rules.specs.declared.Link.{Link}
 use Rattle.rules.specs.declared.Limits.{Limits}
 use Rattle.rules.specs.declared.Checked.{Checked}
 use Rattle.rules.specs.declared.Verdict.{Verdict}
 use Rattle.rules.specs.declared.Verdict.the-variants.{Passes, Refused}
-use Rattle.rules.specs.Network.{linksOf, asesOf, arcsOf}
-use Rattle.rules.specs.Stable.{Routing, tableOf}
+use Rattle.rules.specs.Network.{linksOf}
 use Rattle.rules.specs.Checks.{baseLimits, checkWords}
-use Rattle.rules.proofs.ArcLaws.{arcs-positive}
-use Rattle.rules.proofs.Unique.{stable-unique}
 use Rattle.linktext.specs.Entries as text
 use Rattle.findings.specs.declared.Found.{Found}
 use Rattle.findings.specs.Entries.{findingsReply, roomAfter}
-use Rattle.table.specs.Entries.{tableFault, StableTable, Filled, TableAfter, Tabled}
+use Rattle.table.specs.Entries.{tableFault, StableTable, TableAfter, Tabled}
+use Rattle.table.proofs.StableLaws.{stable-words, filled-words}
 use Rattle.sheet.specs.declared.SheetRead.{SheetRead}
 use Rattle.sheet.specs.Entries as sheet
 use Rattle.judge.specs.Judging.{Judged}
+use Rattle.judge.proofs.Promises.{judged-one}
 use Rattle.machine.specs.declared.Ran.{Ran}
 use Rattle.machine.specs.Answers.{Answered}
+use Rattle.machine.proofs.QuietRuns.{answered-once}
 
 pub once : {A : Type 0} {x y v : A} → x ≡ v → y ≡ v → x ≡ y
 once e f = e ∙ sym f
@@ -76,24 +76,20 @@ read-sheet-once s t = twice
 
 pub judge-once : {limits : Limits} {bound : ℕ} {ws s room : List ℕ} {r q : Verdict} {u v : List ℕ} → Judged limits bound ws s room r u
     → Judged limits bound ws s room q v → (r ≡ q) × (u ≡ v)
-judge-once j k = (once (j .replies) (k .replies), once (j .zeroed) (k .zeroed))
+judge-once = judged-one
 
 pub run-once : {limits : Limits} {ws : List ℕ} {d : ℕ} {cs : List ℕ} {n : ℕ} {t r : List ℕ} {x y : Ran} {t₁ t₂ r₁ r₂ : List ℕ}
     → Answered limits ws d cs n t r x t₁ r₁ → Answered limits ws d cs n t r y t₂ r₂ → (x ≡ y) × (t₁ ≡ t₂) × (r₁ ≡ r₂)
-run-once a b = (once (a .replies) (b .replies), once (a .tabled) (b .tabled), once (a .zeroed) (b .zeroed))
+run-once {limits} {ws} {d} {cs} {n} {t} {r} a b = answered-once limits ws d cs n t r a b
 
 -- The stable table ---------------------------------------------------------------------------------------------------------
 
 -- the words of a stable routing are one list
 pub stable-words-once : (ls : List Link) (d : ℕ) (s t : List ℕ) → StableTable ls d s → StableTable ls d t → s ≡ t
-stable-words-once ls d s t a b =
-    let same = stable-unique (arcsOf ls) (arcs-positive ls) d (a .routing) (b .routing) (a .stable) (b .stable) in
-    a .words ∙ ap (λ (R : Routing). tableOf R (asesOf ls)) same ∙ sym (b .words)
+stable-words-once ls d s t a b = once (stable-words ls d s a) (stable-words ls d t b)
 
 pub after-once : (v : Verdict) (ls : List Link) (d : ℕ) (old s t : List ℕ) → TableAfter v ls d old s → TableAfter v ls d old t → s ≡ t
-after-once Passes ls d old s t a b =
-    let same = stable-words-once ls d (a .table) (b .table) (a .stable) (b .stable) in
-    a .words ∙ ap (λ (w : List ℕ). w ++ drop (length w) old) same ∙ sym (b .words)
+after-once Passes ls d old s t a b = once (filled-words ls d old s a) (filled-words ls d old t b)
 after-once (Refused why) ls d old s t a b = once a b
 
 pub table-once : (limits : Limits) (ws : List ℕ) (d : ℕ) (t r : List ℕ) {x y : Verdict} {t₁ t₂ r₁ r₂ : List ℕ} → Tabled limits ws d t r x t₁ r₁

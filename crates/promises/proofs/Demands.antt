@@ -4,7 +4,7 @@
 --   table-words        the stable table's entry writes the words of the stable routing
 --   quiet-sheet-passes whenever a run reports quiet, the sheet of its lines passes the judge
 use Prim.Native.Nat.{ℕ, _≤_}
-use mathlib.Core.Path.{_≡_, sym, _∙_, ap, subst}
+use mathlib.Core.Path.{_≡_, sym, subst}
 use mathlib.Core.Bool.{true}
 use mathlib.Core.List.{List}
 use lib.ListN.{length}
@@ -19,9 +19,9 @@ use Rattle.rules.specs.Solve.{stableOf}
 use Rattle.rules.specs.Judge.{entriesFor}
 use Rattle.rules.specs.Machine.{runOf, lowest, isQuiet}
 use Rattle.rules.proofs.ArcLaws.{arcs-positive, direction-unique}
-use Rattle.rules.proofs.Exists.{stable-only}
 use Rattle.rules.proofs.MachineRuns.{run-quiet}
 use Rattle.table.specs.Entries.{StableTable}
+use Rattle.table.proofs.StableLaws.{stable-words}
 use Rattle.sheet.specs.Form.{sheetOf}
 use Rattle.sheet.specs.Sizes.{Below}
 use Rattle.sheet.specs.Entries.{judgeReply}
@@ -29,8 +29,7 @@ use Rattle.judge.proofs.Promises.{judge-stable, ready}
 
 -- the words of a stable routing are those of the computed one
 pub table-words : (ls : List Link) (d : ℕ) (ws : List ℕ) → StableTable ls d ws → ws ≡ tableOf (stableOf (arcsOf ls) d) (asesOf ls)
-table-words ls d ws s =
-    s .words ∙ ap (λ (R : Routing). tableOf R (asesOf ls)) (stable-only (arcsOf ls) (arcs-positive ls) d (s .routing) (s .stable))
+table-words = stable-words
 
 -- 'Whenever the machine, started fresh, has nothing waiting, under every choice of deliveries, its sheet passes.'
 pub quiet-sheet-passes : (ws : List ℕ) (d : ℕ) (choices : List ℕ) (further room : ℕ) → Below 4294967296 ws → linksFault baseLimits ws ≡ Passes

@@ -1,10 +1,10 @@
 -- Lists and numbers alone. Assumes nothing.
 use mathlib.Core.Path.{_≡_, refl, sym, _∙_, ap, subst}
-use Prim.Native.Nat.{ℕ, _+_, _*_, _<_, _≤_}
+use Prim.Native.Nat.{ℕ, _*_, _<_, _≤_}
 use native.Mathlib.Nat.{mul-le-mul-right}
 use native.Mathlib.Omega.{arith}
 use mathlib.Core.Bool.{Bool, true, false, cond}
-use mathlib.Core.List.{List, [], _∷_, _++_, map}
+use mathlib.Core.List.{List, _++_, map-id}
 use lib.Dec.{leb}
 use lib.ListN.{length, take, drop}
 use lib.Seq.{take-at, length-take-le}
@@ -22,10 +22,6 @@ use Rattle.records.proofs.Words.Laws as S′
 
 pub not-both : (n : ℕ) → n ≤ 1536 → 1536 < n → ⊥
 not-both n l g = omega arith
-
-pub map-id : (xs : List ℕ) → map (λ (v : ℕ). v) xs ≡ xs
-map-id [] = refl
-map-id (x ∷ xs) = ap (λ (zs : List ℕ). x ∷ zs) (map-id xs)
 
 -- the array in `Words` has its length: a proof has `Is` of a parameter w as `c .good`
 words-length : (w : Words) (vs : List Val) → Is S.the-row w vs → length (w .words) ≡ 4608

@@ -7,14 +7,15 @@ use native.Mathlib.Omega.{arith}
 use native.Mathlib.Numerals.{add-one}
 use lib.ListN.{length, getD, set, drop, length-append, drop-of-length-le}
 use lib.Seq.{sets, drop-cons}
+use Rattle.rules.specs.declared.Refusal.{Refusal}
+use Rattle.rules.specs.Refusals.{refusalNumber, refusalPlace}
+use Rattle.rules.specs.Stable.{Line}
+use Rattle.rules.proofs.StoreLaws.{sets-front}
 use Rattle.linktext.specs.Lines.{lf}
 use Rattle.linktext.specs.Texts.{decimal}
 use Rattle.linktext.specs.Stored.{Stored}
 use Rattle.linktext.proofs.TextLaws.{digits-bound}
-use Rattle.linktext.proofs.StoreLaws.{sets-front, stored-length}
-use Rattle.rules.specs.declared.Refusal.{Refusal}
-use Rattle.rules.specs.Refusals.{refusalNumber, refusalPlace}
-use Rattle.rules.specs.Stable.{Line}
+use Rattle.linktext.proofs.StoreLaws.{stored-length}
 use Rattle.offers.specs.Lines.{numberAt, lineAt}
 use Rattle.report.specs.declared.Told.{Told}
 use Rattle.report.specs.Report.{sp, wordDestination, wordRing, wordJoined, yesNo, quietOr, spaced, lineText, refusalLine}
@@ -109,4 +110,4 @@ room-left k s h = omega (arith, s .after, stored-length s)
 -- a text that is stored from the first byte on
 pub printed : {old new text : List ℕ} {r : ℕ} → length text ≤ length old → Stored old 0 text new r → Printed text old new r
 printed {old} {new} {text} h s =
-    record { bytes = s .bytes ∙ sets-front old text h; count = omega (arith, s .after); fits = omega (arith, s .after, stored-length s) }
+    record { bytes = s .bytes ∙ sets-front text old h; count = omega (arith, s .after); fits = omega (arith, s .after, stored-length s) }

@@ -24,14 +24,14 @@ use Rattle.rules.specs.Findings.{ringed, joined}
 use Rattle.rules.specs.Stable.{Routing, tableOf}
 use Rattle.rules.specs.Machine.{Run, lowest, isQuiet}
 use Rattle.rules.proofs.AcceptedLinks.{checkLinks-accepted}
-use Rattle.rules.proofs.JudgeLaws.{both-pass}
 use Rattle.rules.proofs.RefusalPlaces.{Below, then-below, unless-below}
+use Rattle.rules.proofs.VerdictLaws.{both-pass}
+use Rattle.rules.proofs.Tests.{clash}
 use Rattle.linktext.specs.declared.Numeral.{Numeral}
 use Rattle.linktext.specs.declared.Numeral.the-variants.{Value, NoForm, OverLarge}
 use Rattle.linktext.specs.Lines.{numeralOf}
 use Rattle.linktext.specs.Texts.{decimal, textIn}
 use Rattle.linktext.specs.TextNetworks.{textFault, networkFault}
-use Rattle.linktext.proofs.DigitLaws.{clash}
 use Rattle.linktext.proofs.RefusalPlaces.{network-below}
 use Rattle.offers.specs.Lines.{numberAt, lineAt}
 use Rattle.offers.proofs.TableLaws.{table-number, table-line}
@@ -54,9 +54,9 @@ pub report-below : (t : List ℕ) → Below 65537 (reportFault baseLimits t)
 unfolding reportFault
 report-below t =
     then-below 65537 (unless (leb (length t) 65536) OverLimit) _ (unless-below 65537 (leb (length t) 65536) OverLimit (omega arith))
-    (then-below 65537 (numberFault (numeralOf (firstLine t))) _ (number-below (numeralOf (firstLine t)))
-    (then-below 65537 (networkFault baseLimits (afterFirst t)) _ (network-below 65537 baseLimits (afterFirst t) (omega arith) (omega arith))
-    (unless-below 65537 (anyOf (eqb (destinationIn t)) (asesOf (linksBehind baseLimits t))) NoDestination (omega arith))))
+    (λ e. then-below 65537 (numberFault (numeralOf (firstLine t))) _ (number-below (numeralOf (firstLine t)))
+    (λ e. then-below 65537 (networkFault baseLimits (afterFirst t)) _ (network-below 65537 baseLimits (afterFirst t) (omega arith) (omega arith))
+    (λ e. unless-below 65537 (anyOf (eqb (destinationIn t)) (asesOf (linksBehind baseLimits t))) NoDestination (omega arith))))
 
 -- how many ASes ---------------------------------------------------------------------------------------------------------------
 

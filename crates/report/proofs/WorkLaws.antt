@@ -16,25 +16,26 @@ use Rattle.rules.specs.declared.Verdict.{Verdict}
 use Rattle.rules.specs.declared.Verdict.the-variants.{Passes, Refused}
 use Rattle.rules.specs.Network.{linksOf, asesOf, arcsOf}
 use Rattle.rules.specs.Checks.{baseLimits, roomNeed}
-use Rattle.rules.specs.Entry.{andThen, destinationFault, cleared, filled}
+use Rattle.rules.specs.Entry.{destinationFault, cleared, filled}
 use Rattle.rules.specs.Findings.{ringed, joined}
-use Rattle.rules.specs.Stable.{Routing, tableOf}
-use Rattle.rules.specs.Solve.{stableOf}
-use Rattle.rules.specs.Machine.{Run, lowest, isQuiet}
+use Rattle.rules.specs.Stable.{tableOf}
+use Rattle.rules.specs.Machine.{lowest, isQuiet}
 use Rattle.rules.proofs.ArcLaws.{arcs-positive, direction-unique}
 use Rattle.rules.proofs.AcceptedLinks.{AcceptedLinks, checkWords-accepted}
-use Rattle.rules.proofs.Exists.{stable-only}
 use Rattle.rules.proofs.MachineRuns.{run-quiet}
 use Rattle.rules.proofs.MachineCounts.{run-counts}
-use Rattle.linktext.proofs.DigitLaws.{clash}
+use Rattle.rules.proofs.Tests.{clash}
+use Rattle.rules.proofs.VerdictLaws.{then-passes}
 use Rattle.findings.specs.declared.Found.{Found}
 use Rattle.findings.specs.declared.Found.the-variants as found
 use Rattle.findings.specs.Entries.{findingsFault, findingsReply, roomAfter}
-use Rattle.table.specs.Entries.{tableFault, StableTable, Filled, Tabled}
+use Rattle.table.specs.Entries.{tableFault, Tabled}
+use Rattle.table.proofs.StableLaws.{filled-words}
 use Rattle.machine.specs.declared.Ran.{Ran}
 use Rattle.machine.specs.declared.Ran.the-variants as ran
 use Rattle.machine.specs.Entries.{choiceFrom, runFault, replyRun, runReply, tableAfter, roomAfter as runRoom}
 use Rattle.machine.specs.Answers.{Answered}
+use Rattle.machine.proofs.ReplyLaws.{reply-refused, Ended, reply-ended}
 use Rattle.report.specs.declared.Ending.{Ending}
 use Rattle.report.specs.declared.Answer.{Answer}
 use Rattle.report.specs.declared.Answer.the-variants as answer
@@ -83,14 +84,6 @@ module _ {ws : List ℕ} {n : ℕ} (ok : Counted ws n) (r : List ℕ) (long : le
 
 -- the stable table ----------------------------------------------------------------------------------------------------------
 
--- there is one only
-stable-words : (ls : List Link) (d : ℕ) (ws : List ℕ) → StableTable ls d ws → ws ≡ tableOf (stableOf (arcsOf ls) d) (asesOf ls)
-stable-words ls d ws s =
-    s .words ∙ ap (λ (R : Routing). tableOf R (asesOf ls)) (stable-only (arcsOf ls) (arcs-positive ls) d (s .routing) (s .stable))
-
-filled-stable : (ls : List Link) (d : ℕ) (t t′ : List ℕ) → Filled ls d t t′ → t′ ≡ settled ls d true t
-filled-stable ls d t t′ f = rw (← stable-words ls d (f .table) (f .stable)) (f .words)
-
 cleared-length : (v : Verdict) (r : List ℕ) → length (cleared v r) ≡ length r
 cleared-length Passes r = length-replicate (length r) 0
 cleared-length (Refused why) r = refl
@@ -106,24 +99,9 @@ module _ {ws : List ℕ} {n d : ℕ} (ok : Accepted ws n d) {t r : List ℕ} {ou
   table-pass = rw (ok .counted .accepted, ok .destination, table-enough (ok .counted) t table, room-enough (ok .counted) r room)
 
   pub settles : t′ ≡ settled (linksOf ws) d true t
-  settles = filled-stable (linksOf ws) d t t′ (rw table-pass at (a .tabled))
+  settles = filled-words (linksOf ws) d t t′ (rw table-pass at (a .tabled))
 
 -- the run -------------------------------------------------------------------------------------------------------------------
-
--- what a reply says of its verdict
-reply-refused : (ws : List ℕ) (run : Run) (v : Verdict) (why : Refusal) → replyRun ws run v ≡ ran.Refused why → v ≡ Refused why
-reply-refused ws run Passes why e = cc
-reply-refused ws run (Refused r) why e = cc
-
-record Ended (ws : List ℕ) (run : Run) (v : Verdict) (made : ℕ) (quiet : Bool) : Type 0 where
-  passes : v ≡ Passes
-  deliveries : made ≡ run .made
-  waits-not : quiet ≡ isQuiet (lowest (arcsOf (linksOf ws)) (run .state .waiting))
-
-reply-ended : (ws : List ℕ) (run : Run) (v : Verdict) (made idle : ℕ) (quiet : Bool) → replyRun ws run v ≡ ran.Ran made idle quiet
-    → Ended ws run v made quiet
-reply-ended ws run Passes made idle quiet e = record { passes = refl; deliveries = cc; waits-not = cc }
-reply-ended ws run (Refused r) made idle quiet e = record { passes = cc; deliveries = clash (cc); waits-not = clash (cc) }
 
 -- the lines that are printed are the run's: where it is quiet they are stable, and the stable table is one
 printed-lines : (ls : List Link) (d : ℕ) (t : List ℕ) (quiet : Bool)
@@ -136,11 +114,6 @@ printed-lines ls d t true q =
     rw (← run-quiet (arcsOf ls) (direction-unique ls) (arcs-positive ls) d [] 65536 (sym q))
     (ap (λ (l : List ℕ). lines ++ l) (drop-append-seam lines (drop (length lines) t)))
 
--- with no choices there is none that is no direction
-passes-last : (v : Verdict) → andThen v Passes ≡ v
-passes-last Passes = refl
-passes-last (Refused r) = refl
-
 module _ {ws : List ℕ} {n : ℕ} (ok : Counted ws n) {d : ℕ} {t r : List ℕ} {out : Ran} {t′ r′ : List ℕ}
     (a : Answered baseLimits ws d [] 65536 t r out t′ r′) (table : length t ≡ 2048) (room : length r ≡ 16384) where
   ls : List Link
@@ -149,9 +122,10 @@ module _ {ws : List ℕ} {n : ℕ} (ok : Counted ws n) {d : ℕ} {t r : List ℕ
   verdict : Verdict
   verdict = destinationFault d (asesOf ls)
 
+  -- with no choices there is none that is no direction
   fault-is : runFault baseLimits ws d [] 65536 (length t) (length r) ≡ verdict
   unfolding runFault choiceFrom ls verdict
-  fault-is = rw (ok .accepted, table-enough ok t table, room-enough ok r room) (passes-last verdict)
+  fault-is = rw (ok .accepted, table-enough ok t table, room-enough ok r room) (then-passes verdict Passes (λ _. refl))
 
   reply-is : out ≡ replyRun ws (runFrom ls d) verdict
   unfolding runReply ls
@@ -164,7 +138,7 @@ module _ {ws : List ℕ} {n : ℕ} (ok : Counted ws n) {d : ℕ} {t r : List ℕ
       record { replies = rw v; tabled = a .tabled ∙ rw fault-is; zeroed = a .zeroed ∙ rw fault-is }
 
   module _ {made idle : ℕ} {quiet : Bool} (e : out ≡ ran.Ran made idle quiet) where
-    ended : Ended ws (runFrom ls d) verdict made quiet
+    ended : Ended ws (runFrom ls d) verdict made idle quiet
     ended = reply-ended ws (runFrom ls d) verdict made idle quiet (sym reply-is ∙ e)
 
     pub run-accepted : Accepted ws n d

@@ -22,11 +22,14 @@ use Rattle.rules.specs.declared.Refusal.{Refusal}
 use Rattle.rules.specs.declared.Refusal.the-variants.{OverLimit, ZeroAs, NoRelation, EqualEnds, PairAgain, TooManyAses}
 use Rattle.rules.specs.declared.Checked.{Checked}
 use Rattle.rules.specs.declared.Checked.the-variants.{Accepted, Refused}
+use Rattle.rules.specs.declared.Verdict.the-variants.{Passes}
 use Rattle.rules.specs.Lists.{In, anyOf}
 use Rattle.rules.specs.Offers.{Arc}
 use Rattle.rules.specs.Network.{linksOf, withEnds, asesFrom, asesOf, aToB, bToA, arcsFrom, arcsOf}
 use Rattle.rules.specs.Checks.{samePair, checkFrom, checkLinks, checkWords}
-use Rattle.rules.proofs.Tests.{by-cond, or-no}
+use Rattle.rules.specs.Entry.{linksFault}
+use Rattle.rules.proofs.Tests.{by-cond, clash, or-no}
+use Rattle.rules.proofs.VerdictLaws.{accepted}
 use Rattle.rules.proofs.BestLaws.{Ranked}
 use Rattle.rules.proofs.ListLaws.{anyOf-false}
 use Rattle.rules.proofs.ArcLaws.{ArcOf, arcs-link, arcs-rank}
@@ -50,7 +53,7 @@ pub record SoundLinks (ls : List Link) : Type 0 where
 
 -- a refusal is no acceptance
 not-accepted : {r : Refusal} {n : ℕ} → Refused r ≡ Accepted n → ⊥
-not-accepted {r} {n} e = (let z : _≡_ {A = ℕ} 0 1 = cc in omega arith)
+not-accepted {r} {n} e = clash (cc)
 
 -- a check that was passed
 passed : (t : Bool) (r : Refusal) (x : Checked) (n : ℕ) → cond t (Refused r) x ≡ Accepted n → (t ≡ false) × (x ≡ Accepted n)
@@ -69,11 +72,10 @@ link-sound l named rel ends =
 
 samePair-false : (l k : Link) → samePair l k ≡ false → SamePair l k → ⊥
 unfolding samePair
-samePair-false l k e (inl (p, q)) = (let z : _≡_ {A = ℕ} 0 1 = cc (eq-eqb (l .a) (k .a) p, eq-eqb (l .b) (k .b) q) in omega arith)
+samePair-false l k e (inl (p, q)) = clash (cc (eq-eqb (l .a) (k .a) p, eq-eqb (l .b) (k .b) q))
 samePair-false l k e (inr (p, q)) =
     let f = or-no (eqb (l .a) (k .a) && eqb (l .b) (k .b)) _ e .1 in
-    let z : _≡_ {A = ℕ} 0 1 = cc (eq-eqb (l .a) (k .b) p, eq-eqb (l .b) (k .a) q) in
-    omega arith
+    clash (cc (eq-eqb (l .a) (k .b) p, eq-eqb (l .b) (k .a) q))
 
 pub record AcceptedFrom (limits : Limits) (seen : List Link) (known : List ℕ) (ls : List Link) (n : ℕ) : Type 0 where
   pub each : (l : Link) → In l ls → SoundLink l
@@ -129,6 +131,16 @@ unfolding checkWords
 checkWords-accepted limits ws n =
     by-cond (λ (x : Checked). x ≡ Accepted n → (length ws % 3 ≡ 0) × AcceptedLinks limits (linksOf ws) n) (eqb (length ws % 3) 0) _ _
     (λ t e. (eqb-true (length ws % 3) 0 t, checkLinks-accepted limits (linksOf ws) n e)) (λ t e. absurd (not-accepted e))
+
+-- the same, of link words in which nothing is refused
+pub links-accepted : (limits : Limits) (ws : List ℕ) → linksFault limits ws ≡ Passes → (n : ℕ) × (length ws % 3 ≡ 0) × AcceptedLinks limits (linksOf ws) n
+links-accepted limits ws e =
+    let (n, a) = accepted (checkWords limits ws) e in
+    let (whole, ok) = checkWords-accepted limits ws n a in
+    (n, whole, ok)
+
+pub links-few : (limits : Limits) (ws : List ℕ) → linksFault limits ws ≡ Passes → length (asesOf (linksOf ws)) ≤ limits .ases
+links-few limits ws e = (let (n, whole, a) = links-accepted limits ws e in omega (arith, a .count, a .few-ases))
 
 -- arcs of one hearer are told apart by their neighbours
 same-pair : (i j : ℕ) (l k : Link) (a b : Arc) → ArcOf i l a → ArcOf j k b → a .hearer ≡ b .hearer

@@ -1,6 +1,6 @@
 -- From lists to theory: all that is promised of a list of link words that is accepted, in one place. Each part cites its theorem.
 use Prim.Native.Nat.{ℕ, _-_, _≤_}
-use mathlib.Core.Path.{_≡_, sym}
+use mathlib.Core.Path.{_≡_}
 use mathlib.Core.Logic.{_↔_}
 use mathlib.Core.Bool.{true}
 use mathlib.Core.List.{List}
@@ -17,7 +17,7 @@ use Rattle.rules.specs.Stable.{Routing, Stable}
 use Rattle.rules.specs.Solve.{stableOf}
 use Rattle.rules.specs.Walks.{Leads, Permitted, Followed}
 use Rattle.rules.specs.Machine.{runOf, lowest, isQuiet}
-use Rattle.rules.specs.Judge.{Entry, entriesFor, judge}
+use Rattle.rules.specs.Judge.{Entry, judge}
 use Rattle.rules.proofs.Faces.{typ, len}
 use Rattle.rules.specs.Ascending.{Ascending}
 use Rattle.rules.proofs.BestLaws.{Ranked}

@@ -79,7 +79,7 @@ module _ {told : Arc → TypeLength} {u : ℕ} {net : List Arc} {o : Offer} (b :
       let l = rw (heard-own told u a h, offer-is a (told a) x) at (b .least a m) in
       (l .typ, l .len)
 
-  best-le-none : Le o (none u)
+  pub best-le-none : Le o (none u)
   unfolding none
   best-le-none = go best-source
     where
@@ -90,11 +90,11 @@ module _ {told : Arc → TypeLength} {u : ℕ} {net : List Arc} {o : Offer} (b :
   pub best-le : (p : Offer) → Best told u net p → Le o p
   best-le p c = ⊎-elim (λ e. rw e best-le-none) (λ h. rw (h .2) (b .least (h .0) (h .1))) (c .one)
 
--- with different ranks it is the only one
-pub best-unique : {told : Arc → TypeLength} {u : ℕ} {net : List Arc} {o p : Offer}
-    → Ranked net → Best told u net o → Best told u net p → o ≡ p
+-- two that are best are the same where arcs of one rank have one neighbour
+pub best-alike : {told : Arc → TypeLength} {u : ℕ} {net : List Arc} {o p : Offer} → Best told u net o → Best told u net p
+    → ((a b : Arc) → In a net → In b net → a .hearer ≡ b .hearer → a .rank ≡ b .rank → a .neighbour ≡ b .neighbour) → o ≡ p
 unfolding none
-best-unique {told} {u} {net} {o} {p} ranked b c = go (best-source b) (best-source c)
+best-alike {told} {u} {net} {o} {p} b c alike = go (best-source b) (best-source c)
   where
     same : (o .pair .typ ≡ p .pair .typ) × (o .pair .length ≡ p .pair .length) × (o .rank ≡ p .rank)
     same = le-antisym (best-le b p c) (best-le c o b)
@@ -107,9 +107,14 @@ best-unique {told} {u} {net} {o} {p} ranked b c = go (best-source b) (best-sourc
     go (nowhere e) (from-arc a m h v) = absurd (apart (rw e at (same .0)) v)
     go (from-arc a m h v) (nowhere f) = absurd (apart (rw f at (sym (same .0))) v)
     go (from-arc a m h v) (from-arc a′ m′ h′ v′) =
-        let e : a ≡ a′ = ranked a a′ m m′ (h ∙ sym h′) (omega (arith, same .2, v .rank, v′ .rank)) in
-        let n : o .next ≡ p .next = v .next ∙ ap (λ (z : Arc). z .neighbour) e ∙ sym (v′ .next) in
+        let e = alike a a′ m m′ (h ∙ sym h′) (omega (arith, same .2, v .rank, v′ .rank)) in
+        let n : o .next ≡ p .next = v .next ∙ e ∙ sym (v′ .next) in
         λ i. record { pair = pair-same (same .0, same .1) i; rank = same .2 i; next = n i }
+
+-- so with different ranks there is one only
+pub best-unique : {told : Arc → TypeLength} {u : ℕ} {net : List Arc} {o p : Offer}
+    → Ranked net → Best told u net o → Best told u net p → o ≡ p
+best-unique ranked b c = best-alike b c (λ a a′ m m′ h r. ap (λ (z : Arc). z .neighbour) (ranked a a′ m m′ h r))
 
 -- What an election hangs on ----------------------------------------------------------------------------------------------
 

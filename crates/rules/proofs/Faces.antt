@@ -8,9 +8,8 @@
 use Prim.Native.Nat.{ℕ, _+_, _≤_}
 use mathlib.Core.Path.{_≡_}
 use mathlib.Core.Logic.{_≢_}
-use Rattle.rules.specs.declared.TypeLength.{TypeLength}
 use Rattle.rules.specs.Offers.{Arc, Offer}
-use Rattle.rules.specs.Stable.{Line, Routing}
+use Rattle.rules.specs.Stable.{Routing}
 
 pub data Ext (k t e : ℕ) : Type 0 where
   cust : k ≡ 1 → t ≡ 1 → e ≡ 1 → Ext k t e

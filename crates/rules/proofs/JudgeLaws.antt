@@ -1,50 +1,25 @@
 -- The judge accepts exactly the lines of the stable routing. Lines that stand name the ASes in order, lines that are best offers make
 -- the printed routing stable, and there is one stable routing only.
-use Prim.Native.Nat.{ℕ, suc, _+_, _-_, _≤_}
-use mathlib.Core.Path.{_≡_, refl, sym, _∙_, ap, subst}
-use mathlib.Core.Logic.{_⊎_, inl, inr, ⊎-elim, _≢_}
-use mathlib.Core.Bool.{Bool, true, false, cond, not, _&&_}
+use Prim.Native.Nat.{ℕ, suc, _≤_}
+use mathlib.Core.Path.{_≡_, refl, ap}
+use mathlib.Core.Logic.{inl, inr}
+use mathlib.Core.Bool.{true, false, not, _&&_}
 use mathlib.Core.List.{List, [], _∷_}
 use native.Mathlib.Omega.{arith}
 use native.Mathlib.Decide.{ℕ-discrete}
 use lib.Dec.{ltb, leb, eqb}
-use lib.ListN.{length}
 use borrow.Author.Tests.{leb-true, ltb-false, eqb-true, eq-eqb, ne-eqb, le-leb, le-ltb, not-true}
-use Rattle.rules.specs.declared.Link.{Link}
-use Rattle.rules.specs.declared.TypeLength.{TypeLength}
-use Rattle.rules.specs.declared.Refusal.{Refusal}
 use Rattle.rules.specs.declared.Refusal.the-variants.{CannotStand, NotBest}
-use Rattle.rules.specs.declared.Verdict.{Verdict}
-use Rattle.rules.specs.declared.Verdict.the-variants.{Passes, Refused}
+use Rattle.rules.specs.declared.Verdict.the-variants.{Passes}
 use Rattle.rules.specs.Pairs.{sameAs}
-use Rattle.rules.specs.Lists.{In, Distinct}
-use Rattle.rules.specs.Offers.{Arc, none, best}
-use Rattle.rules.specs.Network.{asesOf, arcsOf}
-use Rattle.rules.specs.Stable.{Line, Routing, lost, lineOf, told, due, Stable}
-use Rattle.rules.specs.Solve.{stableOf}
-use Rattle.rules.specs.Walks.{Followed}
-use Rattle.rules.specs.Entry.{andThen}
-use Rattle.rules.specs.Judge.{Entry, entriesFor, routingOf, stands, standingFrom, standing, sameLine, bestFrom, bestOffers, judge}
+use Rattle.rules.specs.Lists.{In}
+use Rattle.rules.specs.Offers.{Arc}
+use Rattle.rules.specs.Stable.{Line, Routing, due}
+use Rattle.rules.specs.Judge.{Entry, entriesFor, stands, standingFrom, sameLine, bestFrom}
 use Rattle.rules.proofs.Tests.{and-left, and-right, and-no}
-use Rattle.rules.proofs.Faces.{typ, len, Settled}
-use Rattle.rules.proofs.BestLaws.{best-out}
-use Rattle.rules.proofs.StableFaces.{due-off, stable-settled}
-use Rattle.rules.proofs.Exists.{stableOf-stable, stable-only}
-use Rattle.rules.proofs.WalkLaws.{followed, length-below}
-use Rattle.rules.proofs.NetworkLaws.{ases-distinct}
-use Rattle.rules.proofs.ArcLaws.{arcs-ends, arcs-cost}
+use Rattle.rules.proofs.VerdictLaws.{test-passes}
 use Rattle.rules.proofs.MachineLaws.{sameAs-true}
-use Rattle.rules.proofs.LineLaws.{numbers, routing-out, entries-same, entries-numbers, printed-looked, looked-printed}
-
--- Verdicts ------------------------------------------------------------------------------------------------------------
-
-pub both-pass : (v w : Verdict) → andThen v w ≡ Passes → (v ≡ Passes) × (w ≡ Passes)
-both-pass Passes w e = (refl, e)
-both-pass (Refused r) w e = (cc, cc)
-
-pub test-passes : (t : Bool) (v : Verdict) (r : Refusal) → cond t v (Refused r) ≡ Passes → (t ≡ true) × (v ≡ Passes)
-test-passes true v r e = (refl, e)
-test-passes false v r e = (cc, cc)
+use Rattle.rules.proofs.LineLaws.{numbers}
 
 -- Lines that stand ----------------------------------------------------------------------------------------------------
 

@@ -1,5 +1,7 @@
 pub mod Tests
 pub mod ListLaws
+pub mod VerdictLaws
+pub mod StoreLaws
 pub mod Pigeon
 pub mod ExtensionTable
 pub mod Faces

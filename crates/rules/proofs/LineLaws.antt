@@ -1,15 +1,19 @@
--- Lines of a sheet as a routing and back: where each AS is printed once, what is printed is looked up again. By induction on the lines.
-use Prim.Native.Nat.{ℕ}
+-- Lines of a sheet as a routing and back: where each AS is printed once, what is printed is looked up again. And the table of a routing,
+-- four words for each AS. By induction on the lines, or along the ASes.
+use Prim.Native.Nat.{ℕ, suc, _+_, _-_, _*_, _≤_, _<_}
 use mathlib.Core.Path.{_≡_, refl, sym, _∙_, ap, ap₂}
 use mathlib.Core.Logic.{inl, inr, _≢_}
-use mathlib.Core.List.{List, [], _∷_, map}
+use mathlib.Core.List.{List, [], _∷_, _++_, map}
 use native.Mathlib.Decide.{ℕ-discrete}
-use lib.Dec.{eqb}
+use native.Mathlib.Omega.{arith}
+use lib.ListN.{length, getD, drop}
+use lib.Seq.{getD-append-add, getD-drop}
 use borrow.Author.Tests.{eq-eqb, ne-eqb}
-use Rattle.rules.specs.Lists.{In, Without, Distinct}
+use Rattle.rules.specs.Lists.{In, Distinct}
 use Rattle.rules.specs.Stable.{Line, Routing, lost, tableOf}
-use Rattle.rules.specs.Judge.{Entry, wordsOf, entriesFor, routingOf}
+use Rattle.rules.specs.Judge.{Entry, entriesOf, wordsOf, entriesFor, routingOf}
 use Rattle.rules.proofs.Pigeon.{without-apart}
+use Rattle.rules.proofs.EntryLaws as table
 
 abbrev pub numbers : List Entry → List ℕ
 numbers es = map (λ (e : Entry). e .number) es
@@ -78,3 +82,40 @@ looked-printed (e ∷ es) d =
     (entries-same (routingOf (e ∷ es)) (routingOf es) (numbers es)
     (λ u m. routing-later e es u (without-apart (numbers es) (d .0) m))
     ∙ looked-printed es (d .1))
+
+-- Tables of a routing ------------------------------------------------------------------------------------------------------
+
+pub table-length : (R : Routing) (us : List ℕ) → length (tableOf R us) ≡ 4 * length us
+unfolding tableOf
+table-length R [] = refl
+table-length R (u ∷ us) = omega (arith, table-length R us)
+
+pub table-append : (R : Routing) (us vs : List ℕ) → tableOf R (us ++ vs) ≡ tableOf R us ++ tableOf R vs
+unfolding tableOf
+table-append R [] vs = refl
+table-append R (u ∷ us) vs = ap (λ (t : List ℕ). u ∷ R u .pair .typ ∷ R u .pair .length ∷ R u .next ∷ t) (table-append R us vs)
+
+pub table-one : (R : Routing) (u : ℕ) → tableOf R (u ∷ []) ≡ u ∷ R u .pair .typ ∷ R u .pair .length ∷ R u .next ∷ []
+unfolding tableOf
+table-one R u = refl
+
+-- tables of two routings that agree on the ASes
+pub table-same : (R S : Routing) (us : List ℕ) → ((i : ℕ) → i < length us → R (getD us i 0) ≡ S (getD us i 0)) → tableOf R us ≡ tableOf S us
+unfolding tableOf
+table-same R S [] same = refl
+table-same R S (u ∷ us) same =
+    let e : R u ≡ S u = same 0 (omega arith) in
+    rw (e, table-same R S us (λ i h. same (suc i) (omega arith)))
+
+-- the words beyond the last entry
+pub table-beyond : (R : Routing) (us old : List ℕ) (w : ℕ) → 4 * length us ≤ w → getD (tableOf R us ++ drop (4 * length us) old) w 0 ≡ getD old w 0
+table-beyond R us old w h =
+    let k = w - 4 * length us in
+    let e : w ≡ length (tableOf R us) + k = omega (arith, table-length R us) in
+    let f : 4 * length us + k ≡ w = omega arith in
+    ap (λ (x : ℕ). getD (tableOf R us ++ drop (4 * length us) old) x 0) e ∙ getD-append-add (tableOf R us) (drop (4 * length us) old) k 0
+    ∙ getD-drop (4 * length us) old k 0 ∙ ap (λ (x : ℕ). getD old x 0) f
+
+-- a table's entries are its lines
+pub table-entries : (R : Routing) (us : List ℕ) → entriesOf (tableOf R us) ≡ entriesFor R us
+table-entries R us = ap entriesOf (sym (entries-words R us)) ∙ table.entries-words (entriesFor R us)

@@ -2,17 +2,17 @@
 -- from any AS that it marks reachable, it arrives as it says. A passing sheet's routing is stable, and only one is.
 use Prim.Native.Nat.{ℕ, _-_, _≤_}
 use mathlib.Core.Path.{_≡_, refl, sym, _∙_, ap, subst, fun-ext}
-use mathlib.Core.Logic.{_⊎_, inl, inr, ⊎-elim, _≢_}
-use mathlib.Core.List.{List, [], _∷_}
+use mathlib.Core.Logic.{⊎-elim}
+use mathlib.Core.List.{List}
 use native.Mathlib.Omega.{arith}
 use native.Mathlib.Decide.{ℕ-discrete}
 use lib.ListN.{length}
 use Rattle.rules.specs.declared.Link.{Link}
 use Rattle.rules.specs.declared.Verdict.the-variants.{Passes}
 use Rattle.rules.specs.Lists.{In}
-use Rattle.rules.specs.Offers.{Arc, none, best}
+use Rattle.rules.specs.Offers.{Arc, none}
 use Rattle.rules.specs.Network.{asesOf, arcsOf}
-use Rattle.rules.specs.Stable.{Line, Routing, lost, lineOf, told, due, Stable}
+use Rattle.rules.specs.Stable.{Routing, lost, lineOf, told, due, Stable}
 use Rattle.rules.specs.Solve.{stableOf}
 use Rattle.rules.specs.Walks.{Followed}
 use Rattle.rules.specs.Judge.{Entry, entriesFor, routingOf, standing, bestOffers, judge}
@@ -24,8 +24,9 @@ use Rattle.rules.proofs.Exists.{stableOf-stable, stable-only}
 use Rattle.rules.proofs.WalkLaws.{followed, length-below}
 use Rattle.rules.proofs.NetworkLaws.{ases-distinct}
 use Rattle.rules.proofs.ArcLaws.{arcs-ends, arcs-cost, arcs-positive}
-use Rattle.rules.proofs.LineLaws.{numbers, routing-out, entries-in, entries-only, entries-same, entries-numbers, printed-looked, looked-printed}
-use Rattle.rules.proofs.JudgeLaws.{both-pass, Standing, standing-numbers, standing-passes, best-lines, best-passes}
+use Rattle.rules.proofs.LineLaws.{numbers, routing-out, entries-in, entries-only, entries-numbers, printed-looked, looked-printed}
+use Rattle.rules.proofs.VerdictLaws.{both-pass}
+use Rattle.rules.proofs.JudgeLaws.{Standing, standing-numbers, standing-passes, best-lines, best-passes}
 
 module _ (ls : List Link) (d : ℕ) (has : In d (asesOf ls)) where
   abbrev net : List Arc

@@ -2,6 +2,7 @@
 --
 --   Below b v          the verdict v refuses nothing, or at a place below b
 use Prim.Native.Nat.{ℕ, suc, _+_, _≤_, _<_}
+use mathlib.Core.Path.{_≡_, refl}
 use mathlib.Core.Bool.{Bool, _||_}
 use mathlib.Core.List.{List, [], _∷_}
 use native.Mathlib.Omega.{arith}
@@ -25,8 +26,9 @@ abbrev pub Below : ℕ → Verdict → Type 0
 Below b Passes = Unit {0}
 Below b (Refused why) = refusalPlace why < b
 
-pub then-below : (b : ℕ) (v w : Verdict) → Below b v → Below b w → Below b (andThen v w)
-then-below b Passes w f g = g
+-- the second of two need be below only where the first passes
+pub then-below : (b : ℕ) (v w : Verdict) → Below b v → (v ≡ Passes → Below b w) → Below b (andThen v w)
+then-below b Passes w f g = g refl
 then-below b (Refused why) w f g = f
 
 pub unless-below : (b : ℕ) (test : Bool) (why : Refusal) → refusalPlace why < b → Below b (unless test why)

@@ -12,7 +12,7 @@ use Rattle.rules.specs.Lists.{In}
 use Rattle.rules.specs.Offers.{Arc, Offer, none, best}
 use Rattle.rules.specs.Stable.{Line, Routing, own, lost, lineOf, told, due, Stable}
 use Rattle.rules.proofs.Faces.{typ, len, Marked, Hop, Settled}
-use Rattle.rules.proofs.OfferLaws.{pair-same, Over, ext-range}
+use Rattle.rules.proofs.OfferLaws.{pair-same, ext-range}
 use Rattle.rules.proofs.BestLaws.{Source, nowhere, from-arc, best-is, best-source, best-least, best-same}
 
 -- What is due, by cases, hangs on the pairs alone -------------------------------------------------------------------------

@@ -1,5 +1,5 @@
--- Helpers that every proof uses: a choice by cases of its test, what a test says, a function that is changed at one place, and
--- induction on a length. Each is by cases.
+-- Helpers that every proof uses: a choice by cases of its test, what a test says, two constructors that are never equal, a function
+-- that is changed at one place, and induction on a length. Each is by cases.
 use Prim.Native.Nat.{ℕ, zero, suc, _<_}
 use mathlib.Core.Path.{_≡_, refl}
 use mathlib.Core.Logic.{_⊎_, inl, inr, _≢_}
@@ -15,6 +15,15 @@ pub ruleset tests = (arith, ltb-true, ltb-false, leb-true, leb-false, eqb-true, 
 pub by-cond : {A : Type 0} (P : A → Type 0) (t : Bool) (x y : A) → (t ≡ true → P x) → (t ≡ false → P y) → P (cond t x y)
 by-cond P true x y f g = f refl
 by-cond P false x y f g = g refl
+
+-- two constructors are never equal: `clash (cc)`
+pub clash : {A : Type 0} → _≡_ {A = ℕ} 0 1 → A
+clash e = absurd (omega arith)
+
+-- a test that never holds
+pub untrue : (t : Bool) → (t ≡ true → ⊥) → false ≡ t
+untrue true d = absurd (d refl)
+untrue false d = refl
 
 -- tests joined
 pub and-left : (s t : Bool) → (s && t) ≡ true → s ≡ true

@@ -1,10 +1,9 @@
 -- P1 to P10: one test that antt computes over all rows of specs/Worked, and one statement that follows from it.
-use mathlib.Core.Path.{_≡_, refl, sym, _∙_}
-use mathlib.Core.Logic.{inl, inr}
-use mathlib.Core.Bool.{Bool, true, false, _&&_}
+use mathlib.Core.Path.{_≡_, refl}
+use mathlib.Core.Bool.{true}
 use mathlib.Core.List.{List, [], _∷_}
 use Prim.Native.Nat.{ℕ}
-use lib.Dec.{T, eqb}
+use lib.Dec.{eqb}
 use borrow.Author.Tests.{eqb-true}
 use Rattle.rules.specs.Pairs.{extendType, extension, sameAs, beatsOf, kindFromA, kindFromB}
 use Rattle.rules.specs.Lists.{In, allOf, changed}
@@ -17,6 +16,7 @@ use Rattle.rules.specs.Findings.{provides, peering, reaches, within, rin
 use Rattle.rules.specs.Machine.{outOf, send, fresh, elected, receiver, deliver, started, chosen, lowest, further, runOf}
 use Rattle.rules.specs.Worked.{Example, networkA, twoPeerings, ringOfThree, ringAside, tableTo, findings, runTo, judgedTo, examples, sameNumbers, agrees}
 use Rattle.rules.proofs.Tests.{and-left, and-right}
+use Rattle.rules.proofs.ListLaws.{allOf-each}
 
 all-agree : allOf agrees examples ≡ true
 unfolding extendType extension sameAs beatsOf kindFromA kindFromB changed none offer better choose heard elect best linksOf insert withEnds
@@ -39,8 +39,7 @@ numbers-same (x ∷ k) (y ∷ l) e =
 -- one test over rows gives the statement for each row
 pub rows-hold : (es : List Example) → allOf agrees es ≡ true → (e : Example) → In e es → e .found ≡ e .expected
 unfolding agrees
-rows-hold (f ∷ es) t e (inl p) = rw p (numbers-same (f .found) (f .expected) (and-left (agrees f) (allOf agrees es) t))
-rows-hold (f ∷ es) t e (inr m) = rows-hold es (and-right (agrees f) (allOf agrees es) t) e m
+rows-hold es t e m = numbers-same (e .found) (e .expected) (allOf-each agrees es t e m)
 
 -- every row of P1 to P10 holds
 pub worked : (e : Example) → In e examples → e .found ≡ e .expected

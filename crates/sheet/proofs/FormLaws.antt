@@ -17,12 +17,11 @@ use Rattle.rules.specs.declared.Verdict.the-variants.{Passes, Refused}
 use Rattle.rules.specs.Entry.{andThen}
 use Rattle.rules.specs.Judge.{Entry, entry}
 use Rattle.rules.proofs.Tests.{by-cond, and-left, and-right, tests}
-use Rattle.rules.proofs.JudgeLaws.{test-passes}
+use Rattle.rules.proofs.VerdictLaws.{test-passes, then-assoc, not-refused}
 use Rattle.sheet.specs.Form.{bytes2, bytes4, word2, word4, lineBytes, linesBytes, needs, lengthFault, formFault, lineCount, linesFrom}
 use Rattle.sheet.specs.Places.{lineFrom, lineAt}
 use Rattle.sheet.specs.Sizes.{Below, Fitting, Fits}
 use Rattle.sheet.proofs.NumberLaws.{word2-drop, word4-drop, below-drop, word2-bytes2, word4-bytes4, bytes2-word2, bytes4-word4}
-use Rattle.sheet.proofs.VerdictLaws.{then-assoc, not-refused}
 
 -- the n numbers from place i on, by index
 abbrev pub spelled : List ℕ → ℕ → ℕ → List ℕ

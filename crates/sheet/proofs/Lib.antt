@@ -1,6 +1,4 @@
 -- Laws that belong to no one function.
-pub mod VerdictLaws
-pub mod StoreLaws
 pub mod NumberLaws
 pub mod FormLaws
 pub mod StandingLaws

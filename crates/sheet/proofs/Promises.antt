@@ -16,17 +16,18 @@ use Rattle.rules.specs.Network.{linksOf, asesOf}
 use Rattle.rules.specs.Checks.{baseLimits}
 use Rattle.rules.specs.Entry.{unless, linksFault, filled}
 use Rattle.rules.specs.Judge.{Entry, entriesOf, wordsOf}
-use Rattle.rules.proofs.JudgeLaws.{both-pass}
+use Rattle.rules.proofs.EntryLaws.{entries-words, words-entries, length-words}
+use Rattle.rules.proofs.VerdictLaws.{both-pass}
+use Rattle.rules.proofs.AcceptedLinks.{links-few}
 use Rattle.sheet.specs.declared.SheetRead.the-variants.{Lines}
 use Rattle.sheet.specs.Form.{sheetOf, formFault, destinationOf, lineCount, linesOf}
 use Rattle.sheet.specs.Places.{over}
 use Rattle.sheet.specs.Sizes.{Below}
 use Rattle.sheet.specs.Entries.{writeFault, bytesAfter, readFault, readReply, tableAfter}
-use Rattle.rules.proofs.EntryLaws.{entries-words, words-entries, length-words}
 use Rattle.sheet.proofs.FormLaws.{length-linesFrom}
 use Rattle.sheet.proofs.ReadLaws.{read-passes}
 use Rattle.sheet.proofs.StandingLaws.{standing-fits}
-use Rattle.sheet.proofs.WriteLaws.{writable, links-first, links-few}
+use Rattle.sheet.proofs.WriteLaws.{writable, links-first}
 use Rattle.sheet.proofs.RoundTrips.{ReadsBack, read-sheet, sheet-read}
 
 -- limits under which every table that is written fits one field of a sheet

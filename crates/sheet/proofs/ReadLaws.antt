@@ -14,13 +14,13 @@ use Rattle.rules.specs.declared.Verdict.the-variants.{Passes, Refused}
 use Rattle.rules.specs.Entry.{unless, filled}
 use Rattle.rules.specs.Judge.{Entry, wordsOf}
 use Rattle.rules.proofs.Tests.{tests}
-use Rattle.rules.proofs.JudgeLaws.{both-pass, test-passes}
+use Rattle.rules.proofs.EntryLaws.{length-words, words-append}
+use Rattle.rules.proofs.VerdictLaws.{both-pass, test-passes}
+use Rattle.rules.proofs.StoreLaws.{sets-append, sets-front}
 use Rattle.sheet.specs.declared.SheetRead.the-variants as read
 use Rattle.sheet.specs.Form.{formFault, destinationOf, lineCount, linesFrom, linesOf}
 use Rattle.sheet.specs.Places.{lineAt, over}
 use Rattle.sheet.specs.Entries.{readFault, replyRead, readReply, tableAfter}
-use Rattle.sheet.proofs.StoreLaws.{sets-append, sets-over}
-use Rattle.rules.proofs.EntryLaws.{length-words, words-append}
 use Rattle.sheet.proofs.FormLaws.{Formed, formed, length-linesFrom, lines-more}
 
 -- right form, and room for the lines
@@ -68,4 +68,4 @@ pub read-all : (s old table : List ℕ) (n : ℕ) → 4 * n ≤ length old → t
     → table ≡ over (wordsOf (linesFrom n (drop 10 s))) old
 read-all s old table n h e =
     let lines = linesFrom n (drop 10 s) in
-    e ∙ sets-over (wordsOf lines) old (omega (arith, length-words lines, length-linesFrom n (drop 10 s)))
+    e ∙ sets-front (wordsOf lines) old (omega (arith, length-words lines, length-linesFrom n (drop 10 s)))

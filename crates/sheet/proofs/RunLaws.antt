@@ -6,10 +6,10 @@ use native.Mathlib.Omega.{arith}
 use lib.ListN.{length, drop, set, length-drop}
 use lib.Seq.{sets}
 use Rattle.rules.specs.Judge.{Entry, entriesOf}
+use Rattle.rules.proofs.EntryLaws.{length-entries, entries-next, entries-few}
+use Rattle.rules.proofs.StoreLaws.{sets-append, sets-front}
 use Rattle.sheet.specs.Form.{bytes2, bytes4, lineBytes, linesBytes, sheetOf}
 use Rattle.sheet.specs.Places.{entryAt, headOf, over}
-use Rattle.sheet.proofs.StoreLaws.{sets-append, sets-over}
-use Rattle.rules.proofs.EntryLaws.{length-entries, entries-next, entries-few}
 use Rattle.sheet.proofs.FormLaws.{length-line, length-linesBytes}
 
 -- four bytes as two and two
@@ -66,4 +66,4 @@ sheet-run s t u ws d size count room p q =
     let fits : length (sheetOf d es) ≤ length s = omega (arith, length-linesBytes es) in
     q
     ∙ rw (p, same) (sets-append (headOf d (11 * length es)) (linesBytes es) s 0 10 refl)
-    ∙ sets-over (sheetOf d es) s fits
+    ∙ sets-front (sheetOf d es) s fits

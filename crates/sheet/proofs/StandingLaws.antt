@@ -1,6 +1,6 @@
 -- What it says of lines that they all stand, and the check by the shorter count. By cases on the two lists side by side.
 use Prim.Native.Nat.{ℕ, zero, suc, _+_, _*_, _/_, _≤_, _<_, min}
-use mathlib.Core.Path.{_≡_, refl, sym, ap, _∙_}
+use mathlib.Core.Path.{_≡_, refl, ap}
 use mathlib.Core.Logic.{_≢_}
 use mathlib.Core.Bool.{Bool, true, false, cond}
 use mathlib.Core.List.{List, [], _∷_}
@@ -10,22 +10,20 @@ use native.Mathlib.Omega.{arith}
 use lib.Dec.{eqb}
 use lib.ListN.{length, getD, take, drop, length-drop, drop-of-length-le}
 use lib.Seq.{drop-cons, take-all}
-use borrow.Author.Tests.{eqb-true, eqb-false, eq-eqb, ne-eqb}
+use borrow.Author.Tests.{eqb-true, eqb-false, ne-eqb}
 use Rattle.rules.specs.declared.Refusal.the-variants.{NoDestination, CannotStand}
 use Rattle.rules.specs.declared.Verdict.{Verdict}
 use Rattle.rules.specs.declared.Verdict.the-variants.{Passes, Refused}
-use Rattle.rules.specs.Lists.{anyOf}
 use Rattle.rules.specs.Entry.{andThen, unless, destinationFault}
 use Rattle.rules.specs.Judge.{Entry, entry, entriesOf, stands, standingFrom, standing}
-use Rattle.rules.proofs.Tests.{by-cond}
-use Rattle.rules.proofs.ListLaws.{anyOf-true, anyOf-one}
-use Rattle.rules.proofs.JudgeLaws.{test-passes, stands-is}
-use Rattle.network.proofs.InsertLaws.{at-in, in-at}
+use Rattle.rules.proofs.Tests.{clash}
+use Rattle.rules.proofs.ListLaws.{at-in, in-at, member-yes, member-no}
+use Rattle.rules.proofs.JudgeLaws.{stands-is}
+use Rattle.rules.proofs.EntryLaws.{length-entries, entries-next, entries-few, entries-take}
+use Rattle.rules.proofs.VerdictLaws.{test-passes, then-assoc}
 use Rattle.sheet.specs.Places.{entryAt}
 use Rattle.sheet.specs.Sizes.{Below, Fits}
 use Rattle.sheet.specs.Entries.{tableFault}
-use Rattle.sheet.proofs.VerdictLaws.{then-assoc}
-use Rattle.rules.proofs.EntryLaws.{length-entries, entries-next, entries-few, entries-take}
 
 pub same-count : (bound i : ℕ) (us : List ℕ) (es : List Entry) → standingFrom bound i us es ≡ Passes → length es ≡ length us
 unfolding standingFrom
@@ -42,7 +40,7 @@ standing-fits bound i us [] b w h = tt
 standing-fits bound i us (a ∷ []) b w h = tt
 standing-fits bound i us (a ∷ t ∷ []) b w h = tt
 standing-fits bound i us (a ∷ t ∷ l ∷ []) b w h = tt
-standing-fits bound i [] (a ∷ t ∷ l ∷ n ∷ ws) b w h = let z : _≡_ {A = ℕ} 0 1 = cc in absurd (omega arith)
+standing-fits bound i [] (a ∷ t ∷ l ∷ n ∷ ws) b w h = clash (cc)
 standing-fits bound i (u ∷ us) (a ∷ t ∷ l ∷ n ∷ ws) b w h =
     let p = test-passes (stands bound u (entry a t l n)) _ _ h in
     let s = stands-is bound u (entry a t l n) (p .0) in (
@@ -111,12 +109,7 @@ table-in-order bound us ws k h = rw (entries-take k ws) (go (eqb (length us) (le
 
 -- the destination's place, or none, in the list of ASes
 pub destination-there : (d i : ℕ) (us : List ℕ) → i < length us → getD us i 0 ≡ d → Passes ≡ destinationFault d us
-destination-there d i us h e = rw (anyOf-true (eqb d) us (getD us i 0) (at-in us i h) (eq-eqb d (getD us i 0) (sym e)))
+destination-there d i us h e = rw (member-yes d us (rw e at (at-in 0 us i h)))
 
 pub destination-none : (d : ℕ) (us : List ℕ) → ((i : ℕ) → i < length us → getD us i 0 ≢ d) → Refused NoDestination ≡ destinationFault d us
-destination-none d us none =
-    by-cond (λ (v : Verdict). Refused NoDestination ≡ v) (anyOf (eqb d) us) _ _
-    (λ t.
-    let m = anyOf-one (eqb d) us t in
-    let i = in-at us (m .0) (m .1) in
-    absurd (none (i .0) (i .1) (i .2 ∙ sym (eqb-true d (m .0) (m .2))))) (λ t. refl)
+destination-none d us none = rw (member-no d us (λ m. (let (i, h, e) = in-at 0 us d m in none i h e)))

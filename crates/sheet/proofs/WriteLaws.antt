@@ -2,7 +2,6 @@
 use Prim.Native.Nat.{ℕ, _+_, _*_, _≤_}
 use mathlib.Core.Path.{_≡_, refl, sym, ap, _∙_}
 use mathlib.Core.List.{List}
-use native.Mathlib.Omega.{arith}
 use lib.Dec.{leb, eqb}
 use lib.ListN.{length}
 use Rattle.rules.specs.declared.Limits.{Limits}
@@ -16,13 +15,11 @@ use Rattle.rules.specs.Checks.{checkWords}
 use Rattle.rules.specs.Entry.{andThen, verdictOf, linksFault, destinationFault, filled}
 use Rattle.rules.specs.Judge.{entriesOf, standing}
 use Rattle.rules.proofs.Tests.{tests}
-use Rattle.rules.proofs.AcceptedLinks.{checkWords-accepted}
-use Rattle.rules.proofs.JudgeLaws.{both-pass, test-passes}
+use Rattle.rules.proofs.VerdictLaws.{both-pass, test-passes}
 use Rattle.sheet.specs.Form.{sheetOf}
 use Rattle.sheet.specs.Places.{over}
 use Rattle.sheet.specs.Entries.{tableFault, writeFault, replyWith, writeReply, bytesAfter}
 use Rattle.sheet.specs.Writing.{sheetFault, Wrote}
-use Rattle.sheet.proofs.VerdictLaws.{accepted}
 use Rattle.sheet.proofs.StandingLaws.{same-count}
 
 -- a table that stands for the ASes us, and room for its sheet
@@ -52,12 +49,6 @@ pub links-first : (limits : Limits) (bound : ℕ) (ws : List ℕ) (d : ℕ) (tab
     → writeFault limits bound ws d table room ≡ andThen (linksFault limits ws) (sheetFault bound (asesOf (linksOf ws)) d table room)
 unfolding writeFault sheetFault
 links-first limits bound ws d table room = refl
-
-pub links-few : (limits : Limits) (ws : List ℕ) → linksFault limits ws ≡ Passes → length (asesOf (linksOf ws)) ≤ limits .ases
-links-few limits ws e =
-    let c = accepted (checkWords limits ws) e in
-    let links = checkWords-accepted limits ws (c .0) (c .1) .1 in
-    omega (arith, links .count, links .few-ases)
 
 -- the bytes and the reply, by the verdict
 pub wrote : (bound : ℕ) (us : List ℕ) (d : ℕ) (table old bytes : List ℕ) → sheetFault bound us d table (length old) ≡ Passes

@@ -3,7 +3,7 @@
 --
 --   Fits v             what a verdict refuses at has a place that fits
 use Prim.Native.Nat.{ℕ, suc, _+_, _-_, _%_, _≤_, _<_}
-use mathlib.Core.Path.{_≡_, refl, subst}
+use mathlib.Core.Path.{_≡_, subst}
 use mathlib.Core.Bool.{Bool, _&&_}
 use mathlib.Core.List.{List, [], _∷_}
 use native.Mathlib.Omega.{arith}
@@ -14,16 +14,16 @@ use Rattle.rules.specs.declared.Refusal.{Refusal}
 use Rattle.rules.specs.declared.Refusal.the-variants.{OverLimit, ZeroAs, NoRelation, EqualEnds, PairAgain, TooManyAses, NoDestination, OutputShort, RoomShort, Unreadable, BrokenForm, CannotStand, NotBest, NoDirection}
 use Rattle.rules.specs.declared.Checked.{Checked}
 use Rattle.rules.specs.declared.Verdict.{Verdict}
-use Rattle.rules.specs.declared.Verdict.the-variants.{Passes, Refused}
+use Rattle.rules.specs.declared.Verdict.the-variants.{Refused}
 use Rattle.rules.specs.Refusals.{refusalNumber}
 use Rattle.rules.specs.Offers.{Arc}
 use Rattle.rules.specs.Network.{linksOf, asesOf, arcsOf}
 use Rattle.rules.specs.Checks.{baseLimits, checkWords}
-use Rattle.rules.specs.Entry.{andThen, unless, verdictOf, linksFault}
+use Rattle.rules.specs.Entry.{unless, verdictOf, linksFault}
 use Rattle.rules.specs.Stable.{Routing, due}
 use Rattle.rules.specs.Judge.{Entry, routingOf, stands, standingFrom, standing, sameLine, bestFrom, judge}
 use Rattle.rules.proofs.Tests.{tests, by-cond}
-use Rattle.rules.proofs.RefusalPlaces.{Below, unless-below, check-below}
+use Rattle.rules.proofs.RefusalPlaces.{Below, unless-below, check-below, then-below}
 use Rattle.sheet.specs.Form.{needs, lengthFault, formFault, word2}
 use Rattle.sheet.proofs.StandingLaws.{same-count}
 use Rattle.machine.specs.Entries.{choiceFrom}
@@ -52,11 +52,6 @@ Fits = Below 268435456
 
 pub fits-placed : {v : Verdict} {why : Refusal} → v ≡ Refused why → Fits v → Placed why
 fits-placed e f = subst Fits e f
-
--- the second of two need fit only where the first passes
-pub then-fits : (v w : Verdict) → Fits v → (v ≡ Passes → Fits w) → Fits (andThen v w)
-then-fits Passes w f g = g refl
-then-fits (Refused why) w f g = f
 
 pub unless-fits : (test : Bool) (why : Refusal) → Placed why → Fits (unless test why)
 unless-fits = unless-below 268435456
@@ -103,7 +98,7 @@ best-fits net d R i (e ∷ es) h =
 pub judge-fits : (ls : List Link) (d bound : ℕ) (es : List Entry) → length (asesOf ls) ≤ 512 → Fits (judge ls d bound es)
 unfolding judge
 judge-fits ls d bound es few =
-    then-fits (standing bound (asesOf ls) es) _ (standing-fits bound 0 (asesOf ls) es (omega arith))
+    then-below 268435456 (standing bound (asesOf ls) es) _ (standing-fits bound 0 (asesOf ls) es (omega arith))
     (λ e. best-fits (arcsOf ls) d (routingOf es) 0 es (omega (arith, same-count bound 0 (asesOf ls) es e)))
 
 -- Choices -------------------------------------------------------------------------------------------------------------------

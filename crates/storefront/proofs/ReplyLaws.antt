@@ -2,7 +2,7 @@
 -- what they reply to a text that is refused. By the order of the refusals.
 use Prim.Native.Nat.{ℕ, _+_, _*_, _≤_, _<_}
 use mathlib.Core.Path.{_≡_, refl, sym, _∙_, ap, ap₂}
-use mathlib.Core.Bool.{Bool, true, false, _&&_}
+use mathlib.Core.Bool.{Bool, true, false, _&&_, and-assoc}
 use mathlib.Core.List.{List}
 use lib.Dec.{leb}
 use lib.ListN.{length}
@@ -20,6 +20,7 @@ use Rattle.rules.specs.Solve.{stableOf}
 use Rattle.rules.specs.Machine.{runOf}
 use Rattle.rules.specs.Judge.{entriesFor, judge}
 use Rattle.rules.specs.Findings.{ringed, joined}
+use Rattle.rules.proofs.VerdictLaws.{then-same, then-passes, test-holds, test-fails}
 use Rattle.linktext.specs.Texts.{textIn}
 use Rattle.linktext.specs.TextNetworks.{linksOfText, networkFault}
 use Rattle.findings.specs.Entries.{findingsFault}
@@ -29,7 +30,7 @@ use Rattle.machine.specs.Entries.{choiceFault}
 use Rattle.machine.specs.Entries as machine
 use Rattle.storefront.specs.Page.{packed, packedNo, findingsValue, runValue, sheetFault, sheetReply, sheetAfter, judgeFault, judgeReply, findingsReply, runFault, runReply, tableAfter}
 use Rattle.storefront.specs.Steps.{Given, roomWords, foundReply, judgedReply, ranReply, linesFault, linesReply, linesAfter}
-use Rattle.storefront.proofs.OrderLaws.{then-same, then-passes, test-holds, test-fails, room-suffices}
+use Rattle.storefront.proofs.OrderLaws.{room-suffices}
 
 -- Sizes --------------------------------------------------------------------------------------------------------------------
 
@@ -51,11 +52,6 @@ sizes-first t others rest e = go (leb (length t) 65536) refl
 and-no : (a b : Bool) → b ≡ false → (a && b) ≡ false
 and-no true b e = e
 and-no false b e = refl
-
--- three limits
-and-both : (a b c : Bool) → (a && b && c) ≡ (a && (b && c))
-and-both true b c = refl
-and-both false b c = refl
 
 -- The text is refused ------------------------------------------------------------------------------------------------------
 
@@ -135,7 +131,7 @@ module _ (t : List ℕ) (d : ℕ) (cs : List ℕ) (n : ℕ) (table : List ℕ) w
   unfolding runFault
   run-limits e =
       test-fails (leb (length t) 65536 && leb (length cs) 65536 && leb n 65536) OverLimit _
-      (and-both (leb (length t) 65536) (leb (length cs) 65536) (leb n 65536) ∙ and-no (leb (length t) 65536) _ e)
+      (and-assoc (leb (length t) 65536) (leb (length cs) 65536) (leb n 65536) ∙ and-no (leb (length t) 65536) _ e)
 
   pub many-choices : 65536 < length cs → {r : ℕ} → r ≡ packedNo OverLimit → Replied r table
   many-choices h = run-refused OverLimit (run-limits (rw (lt-leb (length cs) 65536 h)))
@@ -152,7 +148,7 @@ module _ (t : List ℕ) (d : ℕ) (cs : List ℕ) (n : ℕ) (table : List ℕ) w
     unfolding runFault
     run-network =
         ap (λ (b : Bool). andThen (unless b OverLimit) (andThen (networkFault baseLimits t) (runRest (linksOfText baseLimits t) d cs (length table))))
-        (and-both (leb (length t) 65536) (leb (length cs) 65536) (leb n 65536))
+        (and-assoc (leb (length t) 65536) (leb (length cs) 65536) (leb n 65536))
         ∙ sizes-first t (leb (length cs) 65536 && leb n 65536) _ within
 
     pub run-unread : (why : Refusal) → networkFault baseLimits t ≡ Refused why → {r : ℕ} → r ≡ packedNo why → Replied r table

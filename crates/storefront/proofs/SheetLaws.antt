@@ -1,8 +1,8 @@
 -- A sheet from link words: the table's refusals come first, its lines are those of the one stable routing, and what is left is whether
 -- the sheet fits.
 use Prim.Native.Nat.{ℕ, _+_, _*_, _/_, _≤_, _<_}
-use mathlib.Core.Path.{_≡_, refl, sym, _∙_, ap, subst}
-use mathlib.Core.List.{List, [], _∷_}
+use mathlib.Core.Path.{_≡_, sym, _∙_, ap, subst}
+use mathlib.Core.List.{List}
 use native.Mathlib.Omega.{arith}
 use lib.ListN.{length, take}
 use lib.Seq.{take-at}
@@ -19,18 +19,16 @@ use Rattle.rules.specs.Entry.{andThen, linksFault, destinationFault, outputFaul
 use Rattle.rules.specs.Stable.{Routing, tableOf}
 use Rattle.rules.specs.Solve.{stableOf}
 use Rattle.rules.specs.Judge.{entriesOf, entriesFor}
-use Rattle.rules.proofs.Exists.{stable-only}
-use Rattle.rules.proofs.ArcLaws.{arcs-positive}
-use Rattle.rules.proofs.LineLaws.{entries-words}
+use Rattle.rules.proofs.LineLaws.{table-length, table-entries}
+use Rattle.rules.proofs.VerdictLaws.{then-assoc, then-same, then-passes}
 use Rattle.table.specs.Entries.{tableFault, Filled, TableAfter}
+use Rattle.table.proofs.StableLaws.{filled-words}
 use Rattle.sheet.specs.Form.{sheetOf}
 use Rattle.sheet.specs.Places.{over}
-use Rattle.sheet.proofs.VerdictLaws.{then-assoc}
-use Rattle.rules.proofs.EntryLaws as entries
 use Rattle.storefront.specs.Page.{packed, packedNo}
 use Rattle.storefront.specs.Steps.{Placed, roomWords, Stably, linesFault, linesReply, linesAfter}
 use Rattle.storefront.proofs.PlaceLaws.{fits-placed}
-use Rattle.storefront.proofs.OrderLaws.{then-same, then-passes, few-ases, room-suffices, tabled-fits}
+use Rattle.storefront.proofs.OrderLaws.{few-ases, room-suffices, tabled-fits}
 use Rattle.storefront.proofs.TableLaws.{bad-links, accepted-ases}
 
 -- Whether it fits -----------------------------------------------------------------------------------------------------------
@@ -43,11 +41,6 @@ module _ (need : ℕ) (out bytes : List ℕ) where
   pub written : need ≤ length bytes → {after : List ℕ} → after ≡ over out bytes
       → (need ≡ packed (outputFault need (length bytes)) need) × (after ≡ filled (outputFault need (length bytes)) out bytes)
   written h p = (rw (le-leb need (length bytes) h), p ∙ rw (le-leb need (length bytes) h))
-
-table-length : (R : Routing) (us : List ℕ) → length (tableOf R us) ≡ 4 * length us
-unfolding tableOf
-table-length R [] = refl
-table-length R (u ∷ us) = omega (arith, table-length R us)
 
 module _ (ws : List ℕ) (d : ℕ) where
   abbrev us : List ℕ
@@ -104,10 +97,8 @@ module _ (ws : List ℕ) (d : ℕ) where
       stable-words : lines ≡ tableOf S us
       stable-words =
           let f : Filled (linksOf ws) d old table = subst (λ (v : Verdict). TableAfter v (linksOf ws) d old table) (sym (s .replies) ∙ passes) (s .tabled) in
-          let only = stable-only (arcsOf (linksOf ws)) (arcs-positive (linksOf ws)) d (f .stable .routing) (f .stable .stable) in
-          let same : f .table ≡ tableOf S us = f .stable .words ∙ ap (λ (R : Routing). tableOf R us) only in
-          let count : length (f .table) ≡ 4 * n = omega (arith, ap length same, table-length S us, accepted-ases ws links .count) in
-          ap (take (4 * n)) (f .words) ∙ take-at (f .table) _ (4 * n) count ∙ same
+          let count : length (tableOf S us) ≡ 4 * n = omega (arith, table-length S us, accepted-ases ws links .count) in
+          ap (take (4 * n)) (filled-words (linksOf ws) d old table f) ∙ take-at (tableOf S us) _ (4 * n) count
 
       -- written as far as it fits, it is the sheet
       pub sheet-made : (bytes : List ℕ) {reply : ℕ} {after : List ℕ}
@@ -117,5 +108,5 @@ module _ (ws : List ℕ) (d : ℕ) where
       sheet-made bytes (p, q) =
           let fault = lines-second (length bytes) ∙ ap (λ (v : Verdict). andThen v (outputFault (10 + 11 * length us) (length bytes))) (verdict passes) in
           let count : length lines / 4 ≡ length us = omega (arith, ap length stable-words, table-length S us) in
-          let printed : entriesOf lines ≡ entriesFor S us = ap entriesOf (stable-words ∙ sym (entries-words S us)) ∙ entries.entries-words (entriesFor S us) in
+          let printed : entriesOf lines ≡ entriesFor S us = ap entriesOf stable-words ∙ table-entries S us in
           (p ∙ rw (fault, count), q ∙ rw (fault, count, printed))

@@ -13,12 +13,13 @@ use Rattle.rules.specs.Network.{linksOf, asesOf}
 use Rattle.rules.specs.Checks.{baseLimits, checkWords}
 use Rattle.rules.specs.Entry.{andThen, verdictOf, linksFault, destinationFault, outputFault}
 use Rattle.rules.proofs.AcceptedLinks.{AcceptedLinks, checkWords-accepted}
+use Rattle.rules.proofs.VerdictLaws.{then-same, then-passes}
 use Rattle.findings.specs.Entries.{findingsFault}
 use Rattle.table.specs.Entries.{tableFault, TableAfter, Tabled}
 use Rattle.storefront.specs.Page.{packed, packedNo, checkReply, pageFault, PageTabled}
 use Rattle.storefront.specs.Steps.{Placed, roomWords, foundReply}
 use Rattle.storefront.proofs.PlaceLaws.{fits-placed, links-fit}
-use Rattle.storefront.proofs.OrderLaws.{then-same, then-passes, room-suffices, tabled-fits}
+use Rattle.storefront.proofs.OrderLaws.{room-suffices, tabled-fits}
 use Rattle.storefront.proofs.WordLaws.{refusal-packed}
 
 module _ (ws : List ℕ) where

@@ -15,16 +15,16 @@ use Rattle.rules.specs.Network.{linksOf, arcsOf}
 use Rattle.rules.specs.Checks.{baseLimits}
 use Rattle.rules.specs.Entry.{unless}
 use Rattle.rules.specs.Findings.{ringed, joined}
-use Rattle.rules.specs.Machine.{Run, lowest, isQuiet}
-use Rattle.rules.proofs.JudgeLaws.{both-pass}
 use Rattle.rules.proofs.MachineCounts.{run-counts}
+use Rattle.rules.proofs.VerdictLaws.{both-pass}
 use Rattle.findings.specs.declared.Found.{Found}
 use Rattle.findings.specs.declared.Found.the-variants as found
 use Rattle.findings.specs.Entries.{findingsFault, replyFindings, findingsReply}
 use Rattle.sheet.specs.Entries.{judgeReply}
 use Rattle.machine.specs.declared.Ran.{Ran}
 use Rattle.machine.specs.declared.Ran.the-variants as ran
-use Rattle.machine.specs.Entries.{runFault, runOn, replyRun, runReply}
+use Rattle.machine.specs.Entries.{runFault, runOn, runReply}
+use Rattle.machine.proofs.ReplyLaws.{Ended, reply-ended, reply-refused}
 use Rattle.storefront.specs.Page.{packed, packedNo, findingsValue, quietBit}
 use Rattle.storefront.specs.Steps.{Placed, roomWords, foundReply, judgedReply, ranReply}
 use Rattle.storefront.proofs.PlaceLaws.{fits-placed}
@@ -77,35 +77,25 @@ module _ (ws s : List ℕ) {v : Verdict} (e : v ≡ judgeReply baseLimits 511 ws
 
 -- The machine ---------------------------------------------------------------------------------------------------------------
 
-ran-says : (ws : List ℕ) (run : Run) (v : Verdict) (made idle : ℕ) (quiet : Bool) → replyRun ws run v ≡ ran.Ran made idle quiet
-    → (v ≡ Passes) × (made ≡ run .made) × (idle ≡ run .idle) × (quiet ≡ isQuiet (lowest (arcsOf (linksOf ws)) (run .state .waiting)))
-ran-says ws run Passes made idle quiet e = (cc, cc, cc, cc)
-ran-says ws run (Refused why) made idle quiet e = (cc, cc, cc, cc)
-
-ran-stops : (ws : List ℕ) (run : Run) (v : Verdict) (why : Refusal) → replyRun ws run v ≡ ran.Refused why → v ≡ Refused why
-ran-stops ws run Passes why e = cc
-ran-stops ws run (Refused other) why e = cc
-
 module _ (ws : List ℕ) (d : ℕ) (cs : List ℕ) (n table : ℕ) {r : Ran} (e : r ≡ runReply baseLimits ws d cs n table roomWords) where
   within : runFault baseLimits ws d cs n table roomWords ≡ Passes → (length cs ≤ 65536) × (n ≤ 65536)
   unfolding runFault
   within p = run-limits cs n (both-pass (unless (leb (length cs) 65536 && leb n 65536) OverLimit) _ p .0)
 
   module _ (made idle : ℕ) (quiet : Bool) (f : r ≡ ran.Ran made idle quiet) where
-    says : (runFault baseLimits ws d cs n table roomWords ≡ Passes) × (made ≡ runOn ws d cs n .made) × (idle ≡ runOn ws d cs n .idle)
-        × (quiet ≡ isQuiet (lowest (arcsOf (linksOf ws)) (runOn ws d cs n .state .waiting)))
+    says : Ended ws (runOn ws d cs n) (runFault baseLimits ws d cs n table roomWords) made idle quiet
     unfolding runReply
-    says = ran-says ws (runOn ws d cs n) (runFault baseLimits ws d cs n table roomWords) made idle quiet (sym e ∙ f)
+    says = reply-ended ws (runOn ws d cs n) (runFault baseLimits ws d cs n table roomWords) made idle quiet (sym e ∙ f)
 
     pub ran-few : (made ≤ 131072) × (idle ≤ 65536)
-    ran-few = omega (arith, within (says .0), run-counts (arcsOf (linksOf ws)) d cs n, says .1, says .2)
+    ran-few = omega (arith, within (says .passes), run-counts (arcsOf (linksOf ws)) d cs n, says .deliveries, says .idles)
 
     pub ran-value : made + 1048576 * idle + quietBit quiet ≡ ranReply ws d cs n table
-    ran-value = rw (says .0, says .1, says .2, says .3)
+    ran-value = rw (says .passes, says .deliveries, says .idles, says .waits-not)
 
   ran-fault : (why : Refusal) → r ≡ ran.Refused why → runFault baseLimits ws d cs n table roomWords ≡ Refused why
   unfolding runReply
-  ran-fault why f = ran-stops ws (runOn ws d cs n) (runFault baseLimits ws d cs n table roomWords) why (sym e ∙ f)
+  ran-fault why f = reply-refused ws (runOn ws d cs n) (runFault baseLimits ws d cs n table roomWords) why (sym e ∙ f)
 
   pub ran-placed : (why : Refusal) → r ≡ ran.Refused why → Placed why
   ran-placed why f = fits-placed (ran-fault why f) (ran-fits ws d cs n table)

@@ -8,7 +8,6 @@ use native.Mathlib.Omega.{arith}
 use native.Mathlib.Decide.{ℕ-discrete}
 use borrow.Author.Tests.{eq-eqb, ne-eqb}
 use lib.ListN.{length, getD, take, drop}
-use Rattle.rules.specs.declared.TypeLength.{TypeLength}
 use Rattle.rules.specs.declared.Link.{Link}
 use Rattle.rules.specs.Pairs.{originOf}
 use Rattle.rules.specs.Lists.{In}
@@ -18,11 +17,12 @@ use Rattle.rules.proofs.BestLaws.{best-same}
 use Rattle.rules.proofs.StableFaces.{due-own, due-off}
 use Rattle.rules.proofs.NetworkLaws.{ases-distinct}
 use Rattle.rules.proofs.ArcLaws.{arcs-ends}
+use Rattle.rules.proofs.LineLaws.{table-length}
 use Rattle.offers.specs.Lines.{numberAt, nextAt, pairAt, lineAt, printed}
 use Rattle.offers.specs.Ways.{placeIn}
 use Rattle.offers.specs.Passes.{offersTo}
 use Rattle.offers.proofs.PlaceLaws.{place-in}
-use Rattle.offers.proofs.TableLaws.{table-length, table-line, printed-at}
+use Rattle.offers.proofs.TableLaws.{table-line, printed-at}
 use Rattle.table.specs.Entries.{Filled}
 use Rattle.table.specs.Steps.{dueAt, hopOf, Hopped, Agreed}
 use Rattle.table.proofs.WordLaws.{list-at, table-is}

@@ -9,3 +9,4 @@ pub mod NearLaws
 pub mod WholeLaws
 pub mod AgreedLaws
 pub mod FillLaws
+pub mod StableLaws

@@ -4,9 +4,9 @@
 --   Near S d f us t    every AS of us has a pair in table t that is close to S's in phase f
 use Prim.Native.Nat.{ℕ, suc, _*_, _≤_, _<_}
 use mathlib.Core.Path.{_≡_, refl, sym, _∙_, ap}
-use mathlib.Core.Logic.{inl, inr, _≢_}
+use mathlib.Core.Logic.{_≢_}
 use mathlib.Core.Bool.{true, false}
-use mathlib.Core.List.{List, _∷_}
+use mathlib.Core.List.{List}
 use native.Mathlib.Omega.{arith}
 use native.Mathlib.Decide.{ℕ-discrete}
 use lib.ListN.{length, getD}
@@ -19,6 +19,7 @@ use Rattle.rules.specs.Stable.{Routing}
 use Rattle.rules.proofs.Faces.{len, Marked}
 use Rattle.rules.proofs.NetworkLaws.{ases-distinct}
 use Rattle.rules.proofs.ArcLaws.{arcs-ends, arcs-positive, arcs-length}
+use Rattle.rules.proofs.ListLaws.{in-at}
 use Rattle.offers.specs.declared.Way.{Way}
 use Rattle.offers.specs.Lines.{pairAt}
 use Rattle.offers.specs.Ways.{placeIn, wayAt, arcAt, noArc}
@@ -28,11 +29,6 @@ use Rattle.offers.proofs.WayLaws.{arc-in, way-arc}
 use Rattle.table.specs.Phases.{offeredAt, gains, wants, heardOver, Reached, CalmBelow, Settled}
 use Rattle.table.proofs.CloseLaws.{Close, gains-means, gain-close, close-next, close-last}
 use Rattle.table.proofs.PhaseLaws.{gain-pair, gain-other, gain-framed, reached-keeps}
-
--- where a member stands
-pub in-at : {A : Type 0} (d x : A) (l : List A) → In x l → (k : ℕ) × (k < length l) × (getD l k d ≡ x)
-in-at d x (y ∷ l) (inl e) = (0, omega arith, sym e)
-in-at d x (y ∷ l) (inr m) = (let (k, h, e) = in-at d x l m in (suc k, omega arith, e))
 
 abbrev pub Near : Routing → ℕ → ℕ → List ℕ → List ℕ → Type 0
 Near S d f us t = (u : ℕ) → In u us → Close S d f u (pairAt t (placeIn us u))
@@ -108,7 +104,7 @@ module _ (ls : List Link) (ps : List ℕ) (placed : Placed ls ps) where
     near-calm : (f : ℕ) (t : List ℕ) → CalmBelow way f cap (2 * length ls) t → (a : Arc) → In a (arcsOf ls)
         → gains f cap (extension (a .kind) (a .cost) (pairAt t (placeIn us (a .neighbour)))) (pairAt t (placeIn us (a .hearer))) ≡ false
     near-calm f t calm a is =
-        let (k, h, e) = in-at noArc a (arcsOf ls) is in
+        let (k, h, e) = in-at noArc (arcsOf ls) a is in
         let g : k < 2 * length ls = omega (arith, arcs-length 0 ls) in
         let o = over-arc k g in
         let c = calm k g in

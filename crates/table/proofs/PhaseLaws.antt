@@ -11,7 +11,7 @@ use native.Mathlib.Decide.{ℕ-discrete}
 use borrow.Author.Count.{below-more}
 use borrow.Author.Tests.{eq-eqb, ne-eqb}
 use lib.Dec.{eqb}
-use lib.ListN.{length, getD, length-take}
+use lib.ListN.{length}
 use Rattle.rules.specs.declared.TypeLength.{TypeLength}
 use Rattle.rules.specs.declared.Link.{Link}
 use Rattle.rules.specs.Network.{linksOf, asesOf}
@@ -19,7 +19,7 @@ use Rattle.offers.specs.declared.Way.{Way}
 use Rattle.offers.specs.Lines.{typeAt, lengthAt, pairAt}
 use Rattle.offers.specs.Ways.{wayAt}
 use Rattle.offers.specs.Steps.{Placed}
-use Rattle.offers.proofs.PlaceLaws.{places-length}
+use Rattle.offers.proofs.PlaceLaws.{placed-long}
 use Rattle.offers.proofs.WayLaws.{way-arc}
 use Rattle.table.specs.Guess.{Framed}
 use Rattle.table.specs.Phases.{offeredAt, wants, heardOver, Joins, Taken, Reached, begun, gained, CalmBelow, weight, sum, height, Moved, Short, Ready, Passed}
@@ -141,9 +141,6 @@ module _ {ls : List Link} {ps : List ℕ} {f cap : ℕ} where
   passed-calm false p e = rw (p .moved .0) (p .moved .1)
 
 -- What a phase asks --------------------------------------------------------------------------------------------------------
-
-placed-long : (ls : List Link) (ps : List ℕ) → Placed ls ps → 2 * length ls ≤ length ps
-placed-long ls ps e = omega (arith, length-take (2 * length ls) ps, ap length e, places-length (asesOf ls) ls)
 
 module _ {ws ps : List ℕ} {cap : ℕ} {t : List ℕ} (r : Ready ws ps cap t) where
   pub ready-way : (k : ℕ) → k < 2 * length (linksOf ws) → (3 * (k / 2) + 3 ≤ length ws) × (2 * (k / 2) + 2 ≤ length ps)

@@ -22,10 +22,11 @@ use Rattle.rules.proofs.Exists.{stableOf-stable}
 use Rattle.rules.proofs.WalkLaws.{length-below}
 use Rattle.rules.proofs.NetworkLaws.{ases-distinct}
 use Rattle.rules.proofs.ArcLaws.{arcs-ends, arcs-cost, arcs-positive}
+use Rattle.rules.proofs.ListLaws.{at-in}
 use Rattle.offers.specs.Lines.{numberAt, pairAt, printed, freshLines}
 use Rattle.offers.specs.Ways.{placeIn}
 use Rattle.offers.specs.Passes.{offersTo}
-use Rattle.offers.proofs.PlaceLaws.{at-in, place-in, place-at}
+use Rattle.offers.proofs.PlaceLaws.{place-in, place-at}
 use Rattle.offers.proofs.TableLaws.{table-line, printed-at}
 use Rattle.offers.proofs.FreshLaws.{LaidTo, laid-number, laid-line, fresh-own, fresh-other}
 use Rattle.table.specs.Guess.{Framed}

@@ -7,8 +7,9 @@ use native.Mathlib.Decide.{ℕ-discrete, decLe}
 use lib.ListN.{length, getD, take, drop, length-append, length-drop}
 use lib.Seq.{ext-getD, getD-take}
 use Rattle.rules.specs.Stable.{Line, Routing, tableOf}
+use Rattle.rules.proofs.LineLaws.{table-length, table-beyond}
 use Rattle.offers.specs.Lines.{numberAt, lineAt}
-use Rattle.offers.proofs.TableLaws.{table-length, table-number, table-line, table-beyond}
+use Rattle.offers.proofs.TableLaws.{table-number, table-line}
 
 -- the first words of a list, which are another list
 pub list-at : (list us : List ℕ) → take (length us) list ≡ us → (i : ℕ) → i < length us → getD list i 0 ≡ getD us i 0

@@ -6,7 +6,7 @@ use Rattle.rules.specs.declared.Verdict.the-variants.{Passes}
 use Rattle.rules.specs.Network.{linksOf, asesOf}
 use Rattle.rules.specs.Checks.{roomNeed}
 use Rattle.rules.specs.Entry.{roomFault}
-use Rattle.sheet.proofs.VerdictLaws.{stopped}
+use Rattle.rules.proofs.VerdictLaws.{stopped}
 use Rattle.judge.proofs.OrderLaws.{room-short, room-enough, sheet-in-order}
 use Rattle.judge.proofs.NetworkLaws.{counts, listed-network}
 use borrow.Author.Needs.{needs}

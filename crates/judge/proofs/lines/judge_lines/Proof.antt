@@ -8,8 +8,8 @@ use Rattle.rules.specs.declared.Verdict.the-variants.{Passes}
 use Rattle.rules.specs.Network.{linksOf}
 use Rattle.rules.specs.Entry.{destinationFault}
 use Rattle.rules.specs.Judge.{wordsOf, standing}
+use Rattle.rules.proofs.VerdictLaws.{stopped}
 use Rattle.sheet.specs.Form.{destinationOf, linesOf}
-use Rattle.sheet.proofs.VerdictLaws.{stopped}
 use Rattle.sheet.proofs.FormLaws.{formed}
 use Rattle.sheet.proofs.StandingLaws.{destination-there, destination-none}
 use Rattle.judge.proofs.OrderLaws.{lines-in-order}

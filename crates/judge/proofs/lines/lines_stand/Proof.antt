@@ -9,9 +9,9 @@ use borrow.Author.Tests.{eq-eqb, ne-eqb}
 use Rattle.rules.specs.declared.Refusal.the-variants.{CannotStand}
 use Rattle.rules.specs.Entry.{andThen, unless}
 use Rattle.rules.specs.Judge.{wordsOf, standing}
+use Rattle.rules.proofs.VerdictLaws.{stopped}
 use Rattle.sheet.specs.Form.{lineCount, linesFrom, linesOf}
 use Rattle.sheet.specs.Places.{over}
-use Rattle.sheet.proofs.VerdictLaws.{stopped}
 use Rattle.sheet.proofs.FormLaws.{formed}
 use Rattle.judge.proofs.StandLaws.{lines-judged}
 use borrow.Author.Needs.{needs}

@@ -1,8 +1,8 @@
 -- `put2`: two stores in a row are one run.
 use native.Mathlib.Omega.{arith}
 use lib.ListN.{length-set}
-use Rattle.sheet.proofs.StoreLaws.{two-stores}
 use borrow.Author.Needs.{needs}
+use Rattle.rules.proofs.StoreLaws.{two-stores}
 use Rattle.sheet.proofs.numbers.put2.Statement.{statement}
 use Rattle.sheet.proofs.numbers.put2.Tie as tie
 

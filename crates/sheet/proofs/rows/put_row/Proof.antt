@@ -3,7 +3,7 @@ use Prim.Native.Nat.{_*_}
 use native.Mathlib.Omega.{arith}
 use lib.ListN.{length-set}
 use Rattle.rules.specs.Judge.{wordsOf}
-use Rattle.sheet.proofs.StoreLaws.{four-stores}
+use Rattle.rules.proofs.StoreLaws.{four-stores}
 use borrow.Author.Needs.{needs}
 use Rattle.sheet.proofs.rows.put_row.Statement.{statement}
 use Rattle.sheet.proofs.rows.put_row.Tie as tie

@@ -8,8 +8,8 @@ use borrow.Author.Tests.{eq-eqb, ne-eqb}
 use Rattle.rules.specs.declared.Refusal.the-variants.{CannotStand}
 use Rattle.rules.specs.declared.Verdict.{Verdict}
 use Rattle.rules.specs.Entry.{andThen, unless}
+use Rattle.rules.proofs.VerdictLaws.{stopped}
 use Rattle.sheet.specs.Entries.{tableFault}
-use Rattle.sheet.proofs.VerdictLaws.{stopped}
 use Rattle.sheet.proofs.StandingLaws.{table-in-order}
 use borrow.Author.Needs.{needs}
 use Rattle.sheet.proofs.standing.table_fault.Statement.{statement}

@@ -1,11 +1,14 @@
 -- `table::look::look` meets its contract: the ASes of accepted links are listed, and the rest is looked at with them.
 use Prim.Native.Nat.{ℕ}
-use mathlib.Core.Path.{_≡_}
+use mathlib.Core.Path.{_≡_, sym}
 use native.Mathlib.Omega.{arith}
 use borrow.Author.Needs.{needs}
 use Rattle.rules.specs.declared.Checked.the-variants.{Accepted}
 use Rattle.rules.specs.Checks.{baseLimits, checkWords}
-use Rattle.table.proofs.LookLaws.{accepted, looked-further, listed-front, accepted-ases, accepted-links, accepted-sized}
+use Rattle.rules.proofs.VerdictLaws.{accepted}
+use Rattle.network.proofs.ListedLaws.{listed-front}
+use Rattle.network.proofs.PrefixLaws.{count}
+use Rattle.table.proofs.LookLaws.{looked-further, accepted-ases, accepted-sized}
 use Rattle.table.proofs.look.look.Statement.{statement}
 use Rattle.table.proofs.look.look.Tie as tie
 
@@ -30,7 +33,7 @@ returns : tie.Need-returns
 returns c =
     let listing = c .before .before .before .before in
     let s = listing .before .before .before .before in
-    looked-further baseLimits (s .args .words .now) _ _ _ _ _ _ _ (known s .1) (accepted-links baseLimits (s .args .words .now) (known s .1))
+    looked-further baseLimits (s .args .words .now) _ _ _ _ _ _ _ (known s .1) (sym (count (s .args .words .now)))
     (listing .list-ases .ensures .count) (listed-front (listing .list-ases .ensures)) (c .look-further .ensures)
 
 pub look-spec : {M : Type 1} → statement M

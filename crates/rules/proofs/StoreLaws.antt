@@ -6,7 +6,6 @@ use native.Mathlib.Nat.{zero-add}
 use native.Mathlib.Omega.{arith}
 use lib.ListN.{length, drop, set}
 use lib.Seq.{sets, sets-eq}
-use Rattle.sheet.specs.Places.{over}
 
 -- stores in a row are one run
 pub two-stores : (l : List ℕ) (i a b : ℕ) → set (set l i a) (i + 1) b ≡ sets l i (a ∷ b ∷ [])
@@ -28,6 +27,6 @@ sets-append [] ys l i k e =
     rw z
 sets-append (x ∷ xs) ys l i k e = sets-append xs ys (set l i x) (suc i) k (omega arith)
 
--- a run from the front
-pub sets-over : (out old : List ℕ) → length out ≤ length old → sets old 0 out ≡ over out old
-sets-over out old h = sets-eq out old 0 (omega arith) ∙ ap (λ (k : ℕ). out ++ drop k old) (zero-add (length out))
+-- a run from the front that fits
+pub sets-front : (out old : List ℕ) → length out ≤ length old → sets old 0 out ≡ out ++ drop (length out) old
+sets-front out old h = sets-eq out old 0 (omega arith) ∙ ap (λ (k : ℕ). out ++ drop k old) (zero-add (length out))
