@@ -37,7 +37,7 @@ starting f h = record {
     pair-homes = record { some = omega (arith, f .pairs-long); few = omega (arith, f .pairs-small) };
     seats-fit = omega (arith, f .seats-long);
     pairs-fit = omega (arith, f .pairs-long);
-    small = omega (arith, f .pairs-long, f .pairs-small);
+    small = f .links-small;
   };
   seats-zero = f .seats-zero;
   pairs-zero = f .pairs-zero;
@@ -45,9 +45,9 @@ starting f h = record {
 }
 
 -- tables of so many zeros
-pub zeros : (n m : ℕ) (limits : Limits) → limits .ases + 1 < n → limits .links < m → n < 4294967296 → m < 4294967296
+pub zeros : (n m : ℕ) (limits : Limits) → limits .ases + 1 < n → limits .links < m → n < 4294967296 → m < 4294967296 → limits .links < 65536
     → Fresh limits (replicate n 0) (replicate m 0)
-zeros n m limits h g a b =
+zeros n m limits h g a b c =
     let e : length {A = ℕ} (replicate n 0) ≡ n = length-replicate n 0 in
     let f : length {A = ℕ} (replicate m 0) ≡ m = length-replicate m 0 in
     record {
@@ -57,4 +57,5 @@ zeros n m limits h g a b =
       pairs-long = omega arith;
       seats-small = omega arith;
       pairs-small = omega arith;
+      links-small = c;
     }

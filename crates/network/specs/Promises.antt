@@ -28,7 +28,7 @@ HasLink ws i = perLink * i + perLink ≤ length ws
 abbrev pub withLink : List ℕ → ℕ → Link → List ℕ
 withLink ws i l = set (set (set ws (3 * i) (l .a)) (3 * i + 1) (l .b)) (3 * i + 2) (l .relation)
 
--- a slot for each AS and one more, and a slot for each link, beyond at least one home in each table
+-- a slot for each AS and one more, and a slot for each link, beyond at least one home in each table; a link's number and one fit 16 bits
 pub record Fresh (limits : Limits) (seats pairs : List ℕ) : Type 0 where
   pub seats-zero : seats ≡ replicate (length seats) 0
   pub pairs-zero : pairs ≡ replicate (length pairs) 0
@@ -36,6 +36,7 @@ pub record Fresh (limits : Limits) (seats pairs : List ℕ) : Type 0 where
   pub pairs-long : limits .links < length pairs
   pub seats-small : length seats < 4294967296
   pub pairs-small : length pairs < 4294967296
+  pub links-small : limits .links < 65536
 
 -- 'output .. words beyond the result, stay as they were'
 pub record Listed (out l u : List ℕ) (r : ℕ) : Type 0 where

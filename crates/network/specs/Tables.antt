@@ -80,12 +80,12 @@ pub record Pairs (homes : ℕ) (ws : List ℕ) (i : ℕ) (t : List ℕ) : Type 0
 pub record Places (ws t : List ℕ) : Type 0 where
   pub places : (s : ℕ) → perLink * slot t s ≤ length ws
 
--- link i, and the table of those before it
+-- link i, and the table of those before it, where i + 1 fits a slot
 pub record Pairing (homes : ℕ) (ws : List ℕ) (i : ℕ) (t : List ℕ) : Type 0 where
   pub homed : Homed homes
   pub table : Pairs homes ws i t
   pub link : HasLink ws i
-  pub small : i + 1 < 4294967296
+  pub small : i + 1 < 65536
   pub fits : homes + i ≤ length t
 
 pub record Paired (homes : ℕ) (ws : List ℕ) (i : ℕ) (t u : List ℕ) (again : Bool) : Type 0 where
@@ -105,7 +105,7 @@ pub record Sized (limits : Limits) (homes : Homes) (seats pairs : List ℕ) : Ty
   pub pair-homes : Homed (homes .pairs)
   pub seats-fit : homes .ases + limits .ases + 1 ≤ length seats
   pub pairs-fit : homes .pairs + limits .links ≤ length pairs
-  pub small : limits .links < 4294967296
+  pub small : limits .links < 65536
 
 -- link i, and the tables before it
 pub record Stepping (limits : Limits) (homes : Homes) (ws : List ℕ) (i n : ℕ) (seats pairs : List ℕ) : Type 0 where

@@ -52,7 +52,7 @@ pub(crate) fn check_with(
     words: &[u32],
     limits: Limits,
     seats: &mut [u32],
-    pairs: &mut [u32],
+    pairs: &mut [u16],
 ) -> Checked
     requires { ⌜ Fresh limits (now seats) (now pairs) ⌝ }
     ensures reply { λ r. ⌜ r ≡ checkWords limits (now (words .entry)) ⌝ }
@@ -71,12 +71,12 @@ pub(crate) fn check_with(
     Checked::Refused(Refusal::OverLimit)
 }
 
-// The check of a list of link words: refusals 1 to 6, or the number of ASes. The tables have 1,024 and 3,072 homes.
+// The check of a list of link words: refusals 1 to 6, or the number of ASes. The tables have 2,048 and 5,632 homes.
 pub fn check_links(words: &[u32]) -> Checked
     ensures { λ r. ⌜ r ≡ checkWords baseLimits (now (words .entry)) ⌝ }
 {
-    let mut seats = [0u32; 1537];
-    let mut pairs = [0u32; 4608];
+    let mut seats = [0u32; 2561];
+    let mut pairs = [0u16; 7168];
     check_with(words, Limits::BASE, &mut seats, &mut pairs)
 }
 

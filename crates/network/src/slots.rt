@@ -70,7 +70,7 @@ fn same_pair(l: Link, k: Link) -> bool
 }
 
 // Whether the search for the pair of l ends at slot s.
-fn pair_stops(words: &[u32], pairs: &[u32], s: usize, l: Link) -> bool
+fn pair_stops(words: &[u32], pairs: &[u16], s: usize, l: Link) -> bool
     requires { ⌜ (s < length (now pairs)) × Places (now words) (now pairs) ⌝ }
     ensures { λ r. ⌜ r ≡ stopsAt (isPair (now (words .entry)) l) (now (pairs .entry)) s ⌝ }
 {
@@ -82,7 +82,7 @@ fn pair_stops(words: &[u32], pairs: &[u32], s: usize, l: Link) -> bool
 }
 
 // The slot of a link with the pair of l, or the empty slot where it belongs.
-fn find_pair(words: &[u32], pairs: &[u32], h: usize, l: Link) -> usize
+fn find_pair(words: &[u32], pairs: &[u16], h: usize, l: Link) -> usize
     requires { ⌜ Room (now pairs) h × Places (now words) (now pairs) ⌝ }
     ensures { λ r. ⌜ Stopped (isPair (now (words .entry)) l) (now (pairs .entry)) h r ⌝ }
 {
@@ -117,7 +117,7 @@ pub fn note_ends(seats: &mut [u32], homes: usize, n: usize, l: Link) -> usize
 }
 
 // Puts link i in if no link before it joins its pair. Whether one does.
-pub fn note_pair(words: &[u32], pairs: &mut [u32], homes: usize, i: usize) -> bool
+pub fn note_pair(words: &[u32], pairs: &mut [u16], homes: usize, i: usize) -> bool
     requires { ⌜ Pairing homes (now words) i (now pairs) ⌝ }
     ensures { λ r. ⌜ Paired homes (now (words .entry)) i (now (pairs .entry)) (now (pairs .exit)) r ⌝ }
 {
@@ -125,7 +125,7 @@ pub fn note_pair(words: &[u32], pairs: &mut [u32], homes: usize, i: usize) -> bo
     let h = pair_home(l, homes);
     let s = find_pair(words, pairs, h, l);
     if pairs[s] == 0 {
-        pairs[s] = (i + 1) as u32;
+        pairs[s] = (i + 1) as u16;
         return false;
     }
     true

@@ -43,7 +43,7 @@ fn take_link(
     limits: Limits,
     homes: Homes,
     seats: &mut [u32],
-    pairs: &mut [u32],
+    pairs: &mut [u16],
 ) -> Checked
     requires { ⌜ Stepping limits homes (now words) i n (now seats) (now pairs) ⌝ }
     ensures { λ r. ⌜ Stepped limits homes (now (words .entry)) i (now (seats .exit)) (now (pairs .exit)) r ⌝ }
@@ -69,7 +69,7 @@ pub fn take_links(
     limits: Limits,
     homes: Homes,
     seats: &mut [u32],
-    pairs: &mut [u32],
+    pairs: &mut [u16],
 ) -> Checked
     requires { ⌜ Starting limits homes (now words) (now seats) (now pairs) ⌝ }
     ensures { λ r. ⌜ r ≡ checkAt limits (now (words .entry)) 0 ⌝ }

@@ -13,7 +13,7 @@ slice-aggregate-check-with-2 : tie.Need-slice-aggregate-check-with-2
 slice-aggregate-check-with-2 c = search needs
 
 check-with-requires : tie.Need-check-with-requires
-check-with-requires c κs = zeros 1537 4608 baseLimits (omega arith) (omega arith) (omega arith) (omega arith)
+check-with-requires c κs = zeros 2561 7168 baseLimits (omega arith) (omega arith) (omega arith) (omega arith) (omega arith)
 
 returns : tie.Need-returns
 returns c = search needs
