@@ -11,7 +11,7 @@ use lib.Dec.{ltb, leb, eqb}
 use lib.Seq.{set-getD}
 use borrow.Author.Tests.{lt-ltb, eq-eqb, ne-eqb, eqb-true, eqb-false, not-true, not-false}
 use Rattle.rules.specs.declared.TypeLength.{TypeLength}
-use Rattle.rules.specs.Pairs.{extendType, extension, sameAs, beatsOf}
+use Rattle.rules.specs.Pairs.{extendType, extension}
 use Rattle.rules.specs.Offers.{Arc, Offer, none, offer, better, choose}
 use Rattle.rules.specs.Stable.{lineOf}
 use Rattle.rules.proofs.Tests.{tests, by-cond, and-left, or-one}
@@ -75,14 +75,6 @@ pub considered : {o : Offered} → Fair o → {w : Way} {from : ℕ} {p : TypeLe
 considered {o} f {w} {from} {p} {x} is e = record { chosen = λ a over. sym e ∙ consider-is w from a over p x is o f }
 
 -- the tests of the code
-pub better-rank : (x y : Offer) → sameAs (x .pair) (y .pair) ≡ true → better x y ≡ ltb (x .rank) (y .rank)
-unfolding better
-better-rank x y e = cc
-
-pub better-pair : (x y : Offer) → sameAs (x .pair) (y .pair) ≡ false → better x y ≡ beatsOf (x .pair) (y .pair)
-unfolding better
-better-pair x y e = cc
-
 pub choose-new : (x y : Offer) → better y x ≡ true → choose x y ≡ y
 unfolding choose
 choose-new x y e = cc

@@ -1,4 +1,5 @@
 pub mod ConsiderLaws
+pub mod FlatLaws
 pub mod PlaceLaws
 pub mod WayLaws
 pub mod FillLaws

@@ -37,17 +37,21 @@ pub struct Offered {
 }
 
 impl Offered {
-    // Smaller type wins, then smaller length, then smaller rank.
+    // Smaller type wins, then smaller length, then smaller rank: one comparison without branches, in which length and rank count where the types are equal.
     pub fn wins(self, other: Offered) -> bool
         ensures { λ r. ⌜ r ≡ better (asOffer self) (asOffer other) ⌝ }
     {
-        let pair = self.pair;
-        let held = other.pair;
-        if pair.same(held) {
-            return self.rank < other.rank;
-        }
-        pair.beats(held)
+        let mine = length_rank(self.pair.length, self.rank);
+        let tie = (mine < length_rank(other.pair.length, other.rank)) as u64;
+        (self.pair.typ as u64) < (other.pair.typ as u64) + tie
     }
+}
+
+// Length and rank as one number: the rank is its low half.
+fn length_rank(length: u32, rank: u32) -> u64
+    ensures { λ r. ⌜ (r ≡ 4294967296 * length + rank) × (rank < 4294967296) ⌝ }
+{
+    4294967296 * (length as u64) + (rank as u64)
 }
 
 // Words per table entry: number, type, length, next hop.

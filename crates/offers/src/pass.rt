@@ -1,9 +1,10 @@
 // The pass that finds every AS's best offer: a table without offers, then one link after the other. A line is stored only where an offer
-// wins, and offers are compared only where the neighbour's type goes on over the link.
+// wins, and offers are compared only where the neighbour's type goes on over the link: each is one branch, whose test has none inside.
 ghost use Prim.Native.Nat.{_+_, _*_, _≤_};
 ghost use mathlib.Core.Path.{_≡_};
-ghost use mathlib.Core.Bool.{true};
+ghost use mathlib.Core.Bool.{true, cond};
 ghost use mathlib.Core.List.{_++_};
+ghost use lib.Dec.{eqb};
 ghost use lib.ListN.{length, drop};
 ghost use Rattle.rules.specs.Network.{linksOf};
 ghost use Rattle.rules.specs.Stable.{lost, tableOf};
@@ -45,14 +46,18 @@ pub fn keep_better(t: &mut [u32], i: usize, new: Offered)
     }
 }
 
+// The last type that goes on over a link of this kind, if it is one.
+fn last_over(kind: u32) -> u32
+    ensures { λ r. ⌜ r ≡ cond (eqb kind 3) 3 1 ⌝ }
+{
+    if kind == 3 { 3 } else { 1 }
+}
+
 // Whether a neighbour's type goes on over a link of this kind: over a provider link every reachable one, over another type 1 alone.
 pub fn goes_on(kind: u32, typ: u32) -> bool
     ensures { λ r. ⌜ r ≡ goesOn kind typ ⌝ }
 {
-    if kind == 3 {
-        return (1 <= typ) & (typ <= 3);
-    }
-    ((kind == 1) | (kind == 2)) & (typ == 1)
+    (1 <= kind) & (kind <= 3) & (1 <= typ) & (typ <= last_over(kind))
 }
 
 // What the neighbour's line gives over a direction that it goes on over: the kind is its type.

@@ -25,16 +25,17 @@ fn other(end: usize) -> usize
     PROVIDER
 }
 
-// Link i, over which one end of a provider link hears.
+// Link i, over which one end of a provider link hears. The head is chosen first, so that no branch hangs on the relation.
 fn note_link(words: &[u32], places: &[u32], index: &mut [u32], hearer: usize, i: usize)
     requires { ⌜ HasLink (now words) i × (i < 1536) ⌝ }
 {
-    if network::link_at(words, i).relation == 1 {
-        let teller = scratch::at(places, 2 * i + other(hearer));
-        scratch::note(index, scratch::head_of(HEADS, teller), i);
+    let teller = scratch::at(places, 2 * i + other(hearer));
+    let head = if network::link_at(words, i).relation == 1 {
+        scratch::head_of(HEADS, teller)
     } else {
-        scratch::note(index, PEERS, i);
-    }
+        PEERS
+    };
+    scratch::note(index, head, i);
 }
 
 // All links, those with smaller places first.
