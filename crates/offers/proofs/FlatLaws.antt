@@ -3,7 +3,7 @@
 use Prim.Native.Nat.{ℕ, zero, suc, _+_, _*_, _≤_, _<_}
 use mathlib.Core.Path.{_≡_, refl, sym, _∙_, ap}
 use mathlib.Core.Logic.{_≢_}
-use mathlib.Core.Bool.{Bool, true, false, cond, _&&_, _||_}
+use mathlib.Core.Bool.{Bool, true, false, cond, _&&_, _||_, and-assoc}
 use native.Mathlib.Omega.{arith}
 use native.Mathlib.Decide.{ℕ-discrete}
 use lib.Dec.{ltb, leb, eqb}
@@ -102,10 +102,6 @@ kind-test (suc (suc (suc zero))) n = absurd (n refl)
 kind-test (suc (suc (suc (suc k)))) n =
     let j = suc (suc (suc (suc k))) in
     cc (le-leb 1 j (omega arith), lt-leb j 3 (omega arith), ne-eqb j 1 (λ e. omega arith), ne-eqb j 2 (λ e. omega arith))
-
-and-assoc : (a b c : Bool) → ((a && b) && c) ≡ (a && (b && c))
-and-assoc true b c = refl
-and-assoc false b c = refl
 
 pub goes-tests : (k t : ℕ) → (((leb 1 k && leb k 3) && leb 1 t) && leb t (cond (eqb k 3) 3 1)) ≡ goesOn k t
 goes-tests k t = go (ℕ-discrete k 3)
