@@ -4,8 +4,9 @@
 #   bash route_sheet.sh < my.txt       one's own: a destination on the first line, then a line for each link
 set -eu
 root=$(cd "$(dirname "$0")" && pwd)
-program=$root/target/bin/route_sheet
-[ -x "$program" ] || (cd "$root" && rt check route_sheet >&2)
+program=$root/crates/route_sheet/out/route_sheet
+# (`rt run` builds the program and runs it once)
+[ -x "$program" ] || (cd "$root/crates/route_sheet" && rt run < stdin > /dev/null)
 if [ "${1:-}" = example ]; then
   exec "$program" < "$root/crates/route_sheet/stdin"
 fi

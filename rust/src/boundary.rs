@@ -1,4 +1,4 @@
-//! The six exported functions of the proved crate `storefront`, and how their replies are packed.
+//! The six exported functions of the proved crate `storefront_c`, and how their replies are packed.
 //!
 //! A slice passes as a pointer and a count of elements. The reply's top byte is the refusal number, 0 for accepted; then the low 56
 //! bits are the value, or bits 28 to 55 the place and bits 0 to 27 its second number.

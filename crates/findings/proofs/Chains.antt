@@ -22,6 +22,7 @@ use Rattle.rules.proofs.Pigeon.{pigeon}
 -- Lists -------------------------------------------------------------------------------------------------------------------
 
 in_map : {A B : Type 0} (f : A → B) (l : List A) (x : A) → In x l → In (f x) (map f l)
+in_map {A = A} {B = B} f [] x x3 = elim x3 [ ]
 in_map f (y ∷ l) x (inl e) = inl (ap f e)
 in_map f (y ∷ l) x (inr m) = inr (in_map f l x m)
 
@@ -114,6 +115,7 @@ chain_from ls u (w ∷ us) v x c d = ⊎_elim (λ e. rw e (w ∷ us, c, d)) (cha
 
 chain_to : (ls : List Link) (u : ℕ) (us : List ℕ) (v x : ℕ) → Chain ls u us v → In x us → (k : ℕ) × (reaches ls k u x ≡ true)
 unfolding reaches
+chain_to ls u [] v x c x4 = elim x4 [ ]
 chain_to ls u (w ∷ us) v x c (inl e) = rw e (zero, c.0)
 chain_to ls u (w ∷ us) v x c (inr m) =
     let (k, r) = chain_to ls w us v x c.1 m in

@@ -1,5 +1,5 @@
 // Two findings on a network: whether it has a customer ring, and whether it is joined.
-#![tactic(auto)]
+#![tactic(auto, unfolding(rules::specs::Network::links_of, rules::specs::Findings::ringed, rules::specs::Findings::joined, rules::specs::Checks::check_words, crate::specs::Entries::findings_reply, crate::specs::Entries::final_room))]
 
 ghost use Rattle.std.specs.Prelude.{◌<◌, ◌≡◌, length, replicate};
 ghost use Rattle.rules.specs.Network.{links_of};

@@ -13,7 +13,7 @@ use Rattle.rules.specs.Network.{links_of, ases_of, arcs_of}
 use Rattle.rules.specs.Stable.{Routing}
 use Rattle.rules.specs.Solve.{stable_of}
 use Rattle.rules.specs.Judge.{Entry, entries_for}
-use Rattle.rules.proofs.Faces.{typ, len, Settled}
+use Rattle.rules.proofs.Faces.{typ, Settled}
 use Rattle.rules.proofs.StableFaces.{stable_Settled}
 use Rattle.rules.proofs.Exists.{stable_of-Stable}
 use Rattle.rules.proofs.WalkLaws.{length_below}

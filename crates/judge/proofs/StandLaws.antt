@@ -65,6 +65,8 @@ lines_judged bound us s k old {t} {v} h e f =
 
 standing_short : (bound i : ℕ) (us : List ℕ) (es : List Entry) → standing_from bound i us es ≡ Passes → (e : Entry) → In e es → e.line.pair.length ≤ bound
 unfolding standing_from
+standing_short bound i [] [] p e m = elim m [ ]
+standing_short bound i (u ∷ us) [] p e m = elim m [ ]
 standing_short bound i [] (x ∷ es) p e m = clash (cc)
 standing_short bound i (u ∷ us) (x ∷ es) p e m =
     let t = test_passes (stands bound u x) (standing_from bound (suc i) us es) (CannotStand i) p in

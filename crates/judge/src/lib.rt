@@ -1,5 +1,5 @@
 // The judge of a route sheet: it works from the sheet's lines and the links, and never computes the stable table.
-#![tactic(auto)]
+#![tactic(auto, unfolding(rules::specs::Network::links_of, rules::specs::Judge::words_of, sheet::specs::Form::fault_of_form, sheet::specs::Form::lines_from, crate::specs::Steps::fault_of_lines, rules::specs::Checks::check_words, sheet::specs::Entries::judge_reply, crate::specs::Steps::fault_of_sheet, rules::specs::Judge::entries_of, rules::specs::Judge::is_same_line, crate::specs::Steps::differ_from))]
 
 ghost use Rattle.std.specs.Prelude.{◌<◌, ◌≡◌, length};
 ghost use Rattle.rules.specs.declared.Checked.TheVariants.{Accepted};

@@ -135,7 +135,7 @@ Spells-on {n} {f} (c ∷ g) h s e =
     let t : digit0 + (c - digit0) ≡ c = omega arith in
     let w : f ++ (c ∷ []) ≡ f ++ ((digit0 + (c - digit0)) ∷ []) = rw t in
     rw append_snoc at
-    (Spells-on {f = f ++ (c ∷ [])} g (omega arith) (more n (c - digit0) f h (omega arith) s refl w) (and_right (is_decimal_digit c) (all_of is_decimal_digit g) e))
+    (Spells-on {n = 10 * n + (c - digit0)} {f = f ++ (c ∷ [])} g (omega arith) (more n (c - digit0) f h (omega arith) s refl w) (and_right (is_decimal_digit c) (all_of is_decimal_digit g) e))
 
 digit_Spells : (c : ℕ) → is_decimal_digit c ≡ true → Spells (10 * 0 + (c - digit0)) (c ∷ [])
 digit_Spells c e =

@@ -3,7 +3,7 @@
 --   line-..            the line by its first byte
 --   first-.., second-.., third-..   field 1, 2, 3: `-no` it does not read, `-ends` nothing follows it, `-goes` a bar follows it
 use mathlib.Core.Path.{◌≡◌, refl, sym, ap, ◌∙◌}
-use mathlib.Core.Logic.{⊎_elim}
+use mathlib.Core.Logic.{⊎_elim, inl, inr}
 use mathlib.Core.List.{List, [], ◌∷◌}
 use Prim.Native.Nat.{ℕ, ◌+◌, ◌-◌, ◌≤◌, ◌<◌}
 use native.Mathlib.Omega.{arith}
@@ -34,6 +34,11 @@ read (related s) r e = cc
 -- a numeral that is no value, by its tag
 abbrev pub NoValue : Numeral → Type 0
 NoValue n = OneOf (1 ∷ 2 ∷ []) (tag_of the_type n)
+
+pub no_value : (n : Numeral) → ((x : ℕ) → n ≡ Value x → ⊥) → NoValue n
+no_value (Value b) h = absurd (h b refl)
+no_value NoForm h = inl refl
+no_value OverLarge h = inr refl
 
 first_fault : (l : List ℕ) (n : Numeral) → NoValue n → fault_of_number 1 n ≡ read_from_first l n
 first_fault l (Value b) h = absurd (⊎_elim (λ e. omega arith) (λ e. omega arith) h)

@@ -7,7 +7,7 @@
 --   begins, skips, takes   the first turn, a comment passed, a link taken
 --   stops_bad, stops_over, ends_all   the reply, where a turn leaves the loop
 use mathlib.Core.Path.{◌≡◌, refl, sym, ap, ◌∙◌}
-use mathlib.Core.Logic.{⊎_elim}
+use mathlib.Core.Logic.{⊎_elim, inl, inr}
 use mathlib.Core.List.{List, [], ◌∷◌, ◌++◌, append_assoc, append-nil}
 use Prim.Native.Nat.{ℕ, suc, ◌+◌, ◌*◌, ◌≤◌, ◌<◌}
 use native.Mathlib.Numerals.{add-one}
@@ -84,6 +84,16 @@ NoSkip r = OneOf (1 ∷ 2 ∷ []) (tag_of the_type r)
 
 abbrev pub NoLink : LineRead → Type 0
 NoLink r = OneOf (0 ∷ 2 ∷ []) (tag_of the_type r)
+
+pub no_skip : (r : LineRead) → (r ≡ Skip → ⊥) → NoSkip r
+no_skip Skip h = absurd (h refl)
+no_skip (Reads l) h = inl refl
+no_skip (Faulty why) h = inr refl
+
+pub no_link : (r : LineRead) → ((l : Link) → r ≡ Reads l → ⊥) → NoLink r
+no_link Skip h = inl refl
+no_link (Reads l) h = absurd (h l refl)
+no_link (Faulty why) h = inr refl
 
 bad_line : (most n i : ℕ) (next : ℕ → TextRead) (r : LineRead) → NoSkip r → NoLink r
     → take_line most n i next r ≡ refused (Unreadable i)

@@ -4,10 +4,8 @@
 --   numeral_of f       a field as a number: its value, or no number in form, or too large
 --   relation_of f      field 3: `-1` provider to customer, `0` peers
 --   read_of_line l     what the line l gives; a line is cut at its bars, the leftmost fault counts
-use Rattle.std.specs.Prelude.{ℕ, suc, ◌+◌, ◌-◌, ◌*◌, Bool, true, false, cond, not, ◌&&◌, ◌||◌, List, [], ◌∷◌, ltb, leb, eqb, length}
-use Rattle.rules.specs.declared.Link.{Link}
+use Rattle.std.specs.Prelude.{ℕ, ◌+◌, ◌-◌, ◌*◌, Bool, false, cond, not, ◌&&◌, List, [], ◌∷◌, leb, eqb, length}
 use Rattle.rules.specs.Lists.{all_of}
-use Rattle.linktext.specs.declared.Reason.{Reason}
 use Rattle.linktext.specs.declared.Reason.TheVariants.{Empty, NoNumber, TooLarge, NoRelation, FurtherBar}
 use Rattle.linktext.specs.declared.LineRead.{LineRead}
 use Rattle.linktext.specs.declared.LineRead.TheVariants.{Skip, Reads, Faulty}

@@ -7,7 +7,7 @@
 --   text_of ls          the text of a list of links
 --   fault_of_text limits ws  why link words are not written, if so
 --   without_comments t  the lines that are no comments, each with LF
-use Rattle.std.specs.Prelude.{ℕ, zero, suc, ◌+◌, ◌*◌, ◌/◌, ◌%◌, Bool, true, false, cond, not, List, [], ◌∷◌, ◌++◌, ltb, leb, eqb, length}
+use Rattle.std.specs.Prelude.{ℕ, zero, suc, ◌+◌, ◌/◌, ◌%◌, cond, List, [], ◌∷◌, ◌++◌, ltb, leb, eqb, length}
 use Rattle.rules.specs.declared.Link.{Link}
 use Rattle.rules.specs.declared.Limits.{Limits}
 use Rattle.rules.specs.declared.Refusal.{Refusal}

@@ -1,5 +1,5 @@
 // Link texts: the as-rel form, `a|b|-1` for provider a and customer b, `a|b|0` for peers, a line for each link.
-#![tactic(auto)]
+#![tactic(auto, unfolding(crate::specs::Lines::before_bar, crate::specs::Lines::is_decimal_digit, crate::specs::Lines::value_from, crate::specs::Lines::is_in_form, crate::specs::Lines::numeral_of, crate::specs::Lines::relation_of, crate::specs::Lines::read_of_line, crate::specs::Fields::place_of, crate::specs::Texts::lines_of, crate::specs::Texts::text_read_from, crate::specs::Texts::text_in, crate::specs::Entries::read_reply, crate::specs::Entries::final_words, rules::specs::Network::links_of, crate::specs::Texts::relation_text, crate::specs::Texts::line_text, crate::specs::Texts::text_of, crate::specs::Texts::fault_of_relations, crate::specs::Texts::fault_of_text, crate::specs::Entries::write_reply, crate::specs::Entries::final_bytes))]
 
 use rules::Link;
 

@@ -1,5 +1,5 @@
 // The message machine: a run over a list of choices and so many further deliveries.
-#![tactic(auto)]
+#![tactic(auto, unfolding(rules::specs::Offers::elect))]
 
 ghost use Rattle.rules.specs.Checks.{base_limits};
 ghost use Rattle.machine.specs.Answers.{Answered};

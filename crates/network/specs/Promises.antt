@@ -5,7 +5,7 @@
 --   Fresh limits seats pairs   two tables of zeros, long enough to check links within the limits
 --   Listed out l u r   u is l with the list out in its first words, which are r
 --   Stands l n x p     what p says of x among the first n words of l
-use Rattle.std.specs.Prelude.{◌≡◌, ℕ, ◌+◌, ◌*◌, ◌/◌, ◌<◌, ◌≤◌, ◌≢◌, List, [], ◌∷◌, ◌++◌, length, drop, replicate, slice_index, slice_set}
+use Rattle.std.specs.Prelude.{◌≡◌, ℕ, ◌+◌, ◌*◌, ◌/◌, ◌<◌, ◌≤◌, ◌≢◌, List, ◌++◌, length, drop, replicate, slice_index, slice_set}
 use Rattle.rules.specs.declared.Limits.{Limits}
 use Rattle.rules.specs.declared.Link.{Link}
 use Rattle.network.specs.declared.Place.{Place}

@@ -1,5 +1,5 @@
 // A lent list of link words, three per link: its check, its ASes in ascending order, and the working room that it needs.
-#![tactic(auto)]
+#![tactic(auto, unfolding(rules::specs::Checks::is_same_pair, crate::specs::Slots::spread_of, crate::specs::Tables::home_of_as, crate::specs::Tables::home_of_pair, rules::specs::Network::links_of, rules::specs::Checks::check_words, rules::specs::Network::insert, rules::specs::Network::with_ends, crate::specs::Prefix::check_at))]
 
 ghost use Rattle.std.specs.Prelude.{◌≡◌, ◌<◌, ◌≤◌, length, take, replicate};
 ghost use Rattle.rules.specs.Network.{links_of, link_in_words, ases_of};

@@ -30,6 +30,7 @@ later x u us ne = cc (ne_eqb x u ne)
 
 -- a member stands at its place
 pub place-In : (us : List ℕ) (x : ℕ) → In x us → (index_in us x < length us) × (get_or us (index_in us x) 0 ≡ x)
+place-In [] x m = elim m [ ]
 place-In (u ∷ us) x m = go (ℕ_discrete x u) m (place-In us x)
   where
     go : Dec (x ≡ u) → In x (u ∷ us) → (In x us → (index_in us x < length us) × (get_or us (index_in us x) 0 ≡ x))

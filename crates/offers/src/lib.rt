@@ -1,5 +1,5 @@
 // The one shared election: what is offered over a direction, the best offer so far, and the pass that finds every AS's best offer.
-#![tactic(auto)]
+#![tactic(auto, unfolding(rules::specs::Offers::better, rules::specs::Network::links_of, rules::specs::Stable::table_of, rules::specs::Stable::lost, crate::specs::Electing::numbers_of, crate::specs::Ways::index_in))]
 
 ghost use Rattle.std.specs.Prelude.{◌+◌, ◌*◌, ◌/◌, ◌≤◌, ◌<◌, ◌≡◌, ◌++◌, length, take, drop};
 ghost use Rattle.rules.specs.Offers.{better};

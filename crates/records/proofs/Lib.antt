@@ -1,9 +1,3 @@
 pub mod Parts
-pub mod Local
-pub mod Front
 pub mod Laws
 pub mod ManyLaws
-pub mod Then
-pub mod From
-pub mod Shapes
-pub mod Entries

@@ -1,6 +1,6 @@
 // The entries over a lent list of link records: the reply and all lent memory are those of the entry over words on the list as words.
 // The list is loaded once, by a thin loop that hands each link by value to a covered function.
-#![tactic(auto)]
+#![tactic(auto, unfolding(rules::specs::Network::flat, rules::specs::Checks::check_words))]
 
 ghost use Rattle.std.specs.Prelude.{◌≡◌, ◌++◌, ◌+◌, ◌*◌, ◌≤◌, length, drop};
 ghost use Rattle.rules.specs.Network.{flat};

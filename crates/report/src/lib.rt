@@ -1,5 +1,5 @@
 // The program's body: bytes in, the report or the refusal out.
-#![tactic(auto)]
+#![tactic(auto, unfolding(linktext::specs::Fields::place_of, crate::specs::Report::fault_of_report, rules::specs::Network::links_of, crate::specs::Report::line_text, crate::specs::Report::refusal_line, crate::specs::Printing::entries_text, crate::specs::Printing::head_text, crate::specs::Printing::told_text))]
 
 ghost use Rattle.rules.specs.Checks.{base_limits};
 ghost use Rattle.report.specs.Entries.{Reported};

@@ -32,6 +32,7 @@ pub record LinkArc (ls : List Link) (a : Arc) : Type 0 where
 
 pub arcs_link : (i : ℕ) (ls : List Link) (a : Arc) → In a (arcs_from i ls) → LinkArc ls a
 unfolding arcs_from
+arcs_link i [] a x' = elim x' [ ]
 arcs_link i (l ∷ ls) a (inl e) = record { link = l; place = i; has = inl refl; either = inl e }
 arcs_link i (l ∷ ls) a (inr (inl e)) = record { link = l; place = i; has = inl refl; either = inr e }
 arcs_link i (l ∷ ls) a (inr (inr m)) =
@@ -88,10 +89,12 @@ Numbered n (a ∷ net) = (a.direction ≡ n) × Numbered (suc n) net
 
 pub numbered_range : (n : ℕ) (net : List Arc) → Numbered n net → (a : Arc) → In a net
     → (n ≤ a.direction) × (a.direction < n + length net)
+numbered_range n [] h a x'' = elim x'' [ ]
 numbered_range n (b ∷ net) h a (inl e) = omega (arith, ap (λ (c : Arc). c.direction) e)
 numbered_range n (b ∷ net) h a (inr m) = omega (arith, numbered_range (suc n) net h.1 a m)
 
 pub Numbered-Directed : (n : ℕ) (net : List Arc) → Numbered n net → Directed net
+Numbered-Directed n [] h a b x4 _ e = elim x4 [ ]
 Numbered-Directed n (c ∷ net) h a b (inl p) (inl q) e = p ∙ sym q
 Numbered-Directed n (c ∷ net) h a b (inl p) (inr q) e =
     absurd (omega (arith, ap (λ (x : Arc). x.direction) p, numbered_range (suc n) net h.1 b q))

@@ -23,6 +23,7 @@ module _ (told : Arc → TypeLength) (u : ℕ) where
 
   pub elect_least : (x : Offer) (net : List Arc) (a : Arc) → In a net → Le (elect told u x net) (heard told u a)
   unfolding elect
+  elect_least x [] a x3 = elim x3 [ ]
   elect_least x (b ∷ net) a (inl e) =
       rw e (le_trans (elect_start (choose x (heard told u b)) net) (choose-Le x (heard told u b)).1)
   elect_least x (b ∷ net) a (inr m) = elect_least (choose x (heard told u b)) net a m

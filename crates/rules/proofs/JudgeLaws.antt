@@ -110,6 +110,7 @@ is_same_line_refl x y e =
 module _ (net : List Arc) (d : ℕ) (R : Routing) where
   pub best_lines : (i : ℕ) (es : List Entry) → best_from net d R i es ≡ Passes → (e : Entry) → In e es → e.line ≡ due net d R e.number
   unfolding best_from
+  best_lines i [] p e x'' = elim x'' [ ]
   best_lines i (x ∷ es) p e (inl q) =
       let t = test_passes (is_same_line x.line (due net d R x.number)) (best_from net d R (suc i) es) (NotBest i) p in
       rw q (is_same_line-true x.line (due net d R x.number) t.0)

@@ -41,11 +41,13 @@ entries_same R S (u ∷ us) same =
 
 pub entries_In : (R : Routing) (us : List ℕ) (u : ℕ) → In u us → In (record { number = u; line = R u }) (entries_for R us)
 unfolding entries_for
+entries_In R [] u x' = elim x' [ ]
 entries_In R (v ∷ us) u (inl e) = inl (ap (λ (x : ℕ). record { number = x; line = R x }) e)
 entries_In R (v ∷ us) u (inr m) = inr (entries_In R us u m)
 
 pub entries_only : (R : Routing) (us : List ℕ) (e : Entry) → In e (entries_for R us) → In e.number us × (e.line ≡ R e.number)
 unfolding entries_for
+entries_only R [] e x' = elim x' [ ]
 entries_only R (v ∷ us) e (inl q) = rw q (inl refl, refl)
 entries_only R (v ∷ us) e (inr m) = (let r = entries_only R us e m in (inr r.0, r.1))
 
@@ -63,6 +65,7 @@ entries_words R (u ∷ us) =
 -- a routing printed and looked up
 pub printed_looked : (R : Routing) (us : List ℕ) (u : ℕ) → In u us → routing_of (entries_for R us) u ≡ R u
 unfolding entries_for
+printed_looked R [] u m = elim m [ ]
 printed_looked R (v ∷ us) u m = go (ℕ_discrete u v) m (λ h. printed_looked R us u h)
   where
     first : Entry

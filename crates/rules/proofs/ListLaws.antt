@@ -17,6 +17,7 @@ use Rattle.rules.proofs.Tests.{untrue, and_left, and_right, and_yes, or_one, or_
 
 module _ {A : Type 0} (f : A → Bool) where
   pub any_of-true : (l : List A) (x : A) → In x l → f x ≡ true → any_of f l ≡ true
+  any_of-true [] x x4 t = elim x4 [ ]
   any_of-true (y ∷ l) x (inl e) t = (let s : f y ≡ true = rw e at t in cc)
   any_of-true (y ∷ l) x (inr m) t = go (f y) (any_of-true l x m t)
     where
@@ -30,6 +31,7 @@ module _ {A : Type 0} (f : A → Bool) where
       ⊎_elim (λ t. (y, inl refl, t)) (λ t. (let r = any_of_one l t in (r.0, inr r.1, r.2))) (or_one (f y) (any_of f l) e)
 
   pub any_of_false : (l : List A) → any_of f l ≡ false → (x : A) → In x l → f x ≡ false
+  any_of_false [] e x x4 = elim x4 [ ]
   any_of_false (y ∷ l) e x (inl q) = ap f q ∙ (or_no (f y) (any_of f l) e).0
   any_of_false (y ∷ l) e x (inr m) = any_of_false l (or_no (f y) (any_of f l) e).1 x m
 
@@ -41,6 +43,7 @@ module _ {A : Type 0} (f : A → Bool) where
       cc
 
   pub all_of_each : (l : List A) → all_of f l ≡ true → (x : A) → In x l → f x ≡ true
+  all_of_each [] e x x4 = elim x4 [ ]
   all_of_each (y ∷ l) e x (inl q) = ap f q ∙ and_left (f y) (all_of f l) e
   all_of_each (y ∷ l) e x (inr m) = all_of_each l (and_right (f y) (all_of f l) e) x m
 
@@ -55,6 +58,7 @@ at_in d (x ∷ l) zero h = inl refl
 at_in d (x ∷ l) (suc i) h = inr (at_in d l i (omega arith))
 
 pub in_at : {A : Type 0} (d : A) (l : List A) (x : A) → In x l → (i : ℕ) × (i < length l) × (get_or l i d ≡ x)
+in_at {A = A} d [] x x3 = elim x3 [ ]
 in_at d (y ∷ l) x (inl e) = (0, omega arith, sym e)
 in_at d (y ∷ l) x (inr m) = (let (i, h, e) = in_at d l x m in (suc i, omega arith, e))
 

@@ -95,6 +95,7 @@ module _ (net : List Arc) (unique : Directed net) (u : ℕ) (p : TypeLength) (w 
 -- the receiver over an arc's direction is its hearer
 pub receiver_is : (net : List Arc) → Directed net → (a : Arc) → In a net → receiver net a.direction ≡ a.hearer
 unfolding receiver
+receiver_is mathlib.Core.List.[] unique a m = elim m [ ]
 receiver_is (b ∷ net) unique a m =
     by_cond (λ (x : ℕ). x ≡ a.hearer) (eqb b.direction a.direction) b.hearer (receiver net a.direction)
     (λ t. ap (λ (c : Arc). c.hearer) (unique b a (inl refl) m (eqb-true b.direction a.direction t)))

@@ -47,6 +47,7 @@ is_quiet-quiet (on i p) e = cc
 pub lowest_first : (n : ℕ) (net : List Arc) (w : ℕ → Waiting) (i : ℕ) (p : TypeLength) → Numbered n net → lowest net w ≡ on i p
     → (a : Arc) → In a net → a.direction < i → w a.direction ≡ nothing
 unfolding lowest
+lowest_first n [] w i p h e a m l = elim m [ ]
 lowest_first n (b ∷ net) w i p h e a m l =
     go (w b.direction) refl e m (λ f k. lowest_first (suc n) net w i p h.1 f a k l)
   where

@@ -85,6 +85,7 @@ ases_from_keeps known (l ∷ ls) u m = ases_from_keeps (with_ends l known) ls u 
 
 ases_from-In : (known : List ℕ) (ls : List Link) (u : ℕ) (l : Link) → In l ls → Ends u l → In u (ases_from known ls)
 unfolding ases_from
+ases_from-In known [] u l x'' h = elim x'' [ ]
 ases_from-In known (k ∷ ls) u l (inl e) h = ases_from_keeps (with_ends k known) ls u (with_ends-In k known u (rw e at h))
 ases_from-In known (k ∷ ls) u l (inr m) h = ases_from-In (with_ends k known) ls u l m h
 

@@ -9,11 +9,13 @@ use Rattle.rules.specs.Lists.{In, Without, Distinct}
 
 module _ {A : Type 0} where
   pub Without-apart : {x y : A} (l : List A) → Without x l → In y l → y ≢ x
+  Without-apart {y = y} [] w x3 = elim x3 [ ]
   Without-apart (z ∷ l) w (inl e) = λ f. w.0 (sym f ∙ e)
   Without-apart (z ∷ l) w (inr m) = Without-apart l w.1 m
 
   -- ys with x, which stands in it, cut out once
   cut : (x : A) (ys : List A) → In x ys → (zs : List A) × (length ys ≡ suc (length zs)) × ((y : A) → In y ys → y ≢ x → In y zs)
+  cut x [] x'' = elim x'' [ ]
   cut x (y ∷ ys) (inl e) = (ys, refl, λ z m ne. ⊎_elim (λ f. absurd (ne (f ∙ sym e))) (λ k. k) m)
   cut x (y ∷ ys) (inr m) =
       let c = cut x ys m in

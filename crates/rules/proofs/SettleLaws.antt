@@ -52,6 +52,7 @@ sum_le f g h (a ∷ net) = omega (arith, h a.hearer, sum_le f g h net)
 sum_lt : (f g : ℕ → ℕ) → ((u : ℕ) → f u ≤ g u) → (net : List Arc) (a : Arc) → In a net → f a.hearer < g a.hearer
     → sum_over f net < sum_over g net
 unfolding sum_over
+sum_lt f g h [] a x'' l = elim x'' [ ]
 sum_lt f g h (b ∷ net) a (inl e) l = omega (arith, sum_le f g h net, rw e at l)
 sum_lt f g h (b ∷ net) a (inr m) l = omega (arith, h b.hearer, sum_lt f g h net a m l)
 

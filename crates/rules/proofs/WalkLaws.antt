@@ -185,6 +185,7 @@ module _ (Has : Arc → Type 0) (pos : (a : Arc) → Has a → 1 ≤ a.cost) (d 
 stops_in : (Has : Arc → Type 0) (ases : List ℕ) → ((a : Arc) → Has a → In a.neighbour ases)
     → (w : List Arc) (u d : ℕ) → Leads Has w u d → (v : ℕ) → In v (stops w) → In v ases
 unfolding stops
+stops_in Has ases within [] u d l v x'' = elim x'' [ ]
 stops_in Has ases within (a ∷ w) u d l v (inl e) = rw e (within a l.0)
 stops_in Has ases within (a ∷ w) u d l v (inr m) = stops_in Has ases within w a.neighbour d l.2 v m
 

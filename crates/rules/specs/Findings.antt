@@ -5,7 +5,7 @@
 --   Ring ls            a customer ring; ringed ls   the same as a test
 --   is_top ls u         u has no provider
 --   Joined ls          every two different tops are peers; joined ls   the same as a test
-use Rattle.std.specs.Prelude.{ℕ, zero, suc, ◌≡◌, ◌≢◌, Bool, true, false, not, ◌&&◌, ◌||◌, List, [], ◌∷◌, eqb, length}
+use Rattle.std.specs.Prelude.{ℕ, zero, suc, ◌≡◌, ◌≢◌, Bool, true, false, not, ◌&&◌, ◌||◌, List, eqb, length}
 use Rattle.rules.specs.declared.Link.{Link}
 use Rattle.rules.specs.Lists.{In, any_of, all_of}
 use Rattle.rules.specs.Network.{ases_of}

@@ -15,8 +15,8 @@ use Rattle.std.specs.Prelude.{ℕ, zero, suc, ◌≡◌, Bool, true, false, cond
 use Rattle.rules.specs.declared.TypeLength.{TypeLength}
 use Rattle.rules.specs.Pairs.{origin_of, unreachable_of, same_as}
 use Rattle.rules.specs.Lists.{In, any_of, changed}
-use Rattle.rules.specs.Offers.{Arc, Offer, best}
-use Rattle.rules.specs.Stable.{Line, Routing, own, lost, line_of}
+use Rattle.rules.specs.Offers.{Arc, best}
+use Rattle.rules.specs.Stable.{Routing, own, lost, line_of}
 
 pub data Waiting : Type 0 where
   nothing : Waiting

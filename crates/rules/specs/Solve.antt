@@ -6,10 +6,9 @@
 --   up, across, down   the three phases
 --   stable_of net d    the stable routing to d
 use Rattle.std.specs.Prelude.{ℕ, zero, suc, ◌+◌, ◌-◌, Bool, true, false, cond, ◌&&◌, ◌||◌, List, [], ◌∷◌, ltb, leb, eqb}
-use Rattle.rules.specs.declared.TypeLength.{TypeLength}
 use Rattle.rules.specs.Lists.{changed}
 use Rattle.rules.specs.Offers.{Arc}
-use Rattle.rules.specs.Stable.{Line, Routing, due}
+use Rattle.rules.specs.Stable.{Routing, due}
 
 unfoldable pub gains : (Arc → Bool) → (ℕ → ℕ) → Arc → Bool
 gains uses D a =

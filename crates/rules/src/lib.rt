@@ -1,5 +1,5 @@
 // The paper's values: pairs of type and length with the extension table, links with their kinds, refusals with number and place.
-#![tactic(auto)]
+#![tactic(auto, unfolding(crate::specs::Pairs::extended_type, crate::specs::Pairs::extension, crate::specs::Pairs::beats_of, crate::specs::Pairs::same_as, crate::specs::Pairs::kind_from_a, crate::specs::Pairs::kind_from_b))]
 
 ghost use Rattle.std.specs.Prelude.{◌≡◌, ◌+◌, ◌<◌};
 ghost use Rattle.rules.specs.Pairs.{extended_type, extension, beats_of, same_as, kind_from_a, kind_from_b};

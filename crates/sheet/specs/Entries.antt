@@ -4,7 +4,7 @@
 --   fault_of_writing, write_reply, final_bytes  writing: 1; 2 to 6; 7; 11; 8
 --   fault_of_reading, read_reply, final_table  reading: 1; 10; 8
 --   judge_reply                          judging: 1; 2 to 6; 8 (room); 10; 7; 11; 12
-use Rattle.std.specs.Prelude.{ℕ, ◌+◌, ◌*◌, cond, List, leb, eqb, length}
+use Rattle.std.specs.Prelude.{ℕ, ◌+◌, ◌*◌, List, leb, eqb, length}
 use Rattle.rules.specs.declared.Limits.{Limits}
 use Rattle.rules.specs.declared.Refusal.TheVariants.{OverLimit, CannotStand}
 use Rattle.rules.specs.declared.Checked.{Checked}

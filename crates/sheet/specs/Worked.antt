@@ -1,5 +1,5 @@
 -- Sheets worked by hand, on the definitions: the bytes of P1's sheet, P10, and where a cut or damaged sheet is broken.
-use Rattle.std.specs.Prelude.{ℕ, List, [], ◌∷◌, ◌++◌, length, take, set}
+use Rattle.std.specs.Prelude.{ℕ, List, [], ◌∷◌, ◌++◌, take, set}
 use Rattle.rules.specs.Checks.{base_limits}
 use Rattle.rules.specs.Judge.{entries_of, words_of}
 use Rattle.rules.specs.Worked.{Example, row, said, lines_p1, table_p1}

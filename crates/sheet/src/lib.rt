@@ -1,5 +1,5 @@
 // The route sheet: written from a table, read, and judged by its own lines.
-#![tactic(auto)]
+#![tactic(auto, unfolding(rules::specs::Judge::words_of, rules::specs::Judge::stands, crate::specs::Form::fault_of_length, crate::specs::Form::fault_of_form, crate::specs::Form::lines_from, crate::specs::Entries::fault_of_reading, crate::specs::Entries::read_reply, crate::specs::Entries::final_table, rules::specs::Judge::entries_of, crate::specs::Form::line_bytes, crate::specs::Form::lines_bytes, crate::specs::Form::sheet_of, crate::specs::Writing::fault_of_sheet, crate::specs::Entries::write_reply, crate::specs::Entries::final_bytes, crate::specs::Entries::fault_of_table))]
 
 ghost use Rattle.std.specs.Prelude.{◌≡◌, length};
 ghost use Rattle.rules.specs.Checks.{base_limits};

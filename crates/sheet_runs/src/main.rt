@@ -2,80 +2,80 @@
 // held to the file stdout, which the second program wrote.
 #![tactic(auto)]
 
-use libc::STDOUT_FILENO;
 use rules::Verdict;
+use std::io;
 
 // Network A: 10|20|-1, 20|30|-1, 30|40|-1, 10|40|0, 10|50|-1.
 const NETWORK_A: [u32; 15] = [10, 20, 1, 20, 30, 1, 30, 40, 1, 10, 40, 0, 10, 50, 1];
 
 // A space, a number, a dot, a number.
-fn say_pair(number: u32, place: usize) {
-    io::write_all(STDOUT_FILENO, b" ");
-    io::print_decimal(STDOUT_FILENO, number as u64);
-    io::write_all(STDOUT_FILENO, b".");
-    io::print_decimal(STDOUT_FILENO, place as u64);
+fn say_pair(rt: &impl Print, number: u32, place: usize) -> io::Result<()> {
+    print!(rt; " {number}.{place}")
 }
 
-fn end_line() {
-    io::write_all(STDOUT_FILENO, b"\n");
+fn end_line(rt: &impl Print) -> io::Result<()> {
+    println!(rt; "")
 }
 
 // What the judge says of a sheet.
-fn say_judged(sheet: &[u8]) {
+fn say_judged(rt: &impl Print, sheet: &[u8]) -> io::Result<()> {
     let mut room = [0u32; 80];
     match judge::judge_sheet(&NETWORK_A, sheet, &mut room) {
-        Verdict::Passes => say_pair(0, 0),
-        Verdict::Refused(why) => say_pair(why.number(), why.place()),
+        Verdict::Passes => say_pair(rt, 0, 0),
+        Verdict::Refused(why) => say_pair(rt, why.number(), why.place()),
     }
 }
 
-fn say_whole(sheet: &[u8; 65]) {
-    say_judged(sheet);
+fn say_whole(rt: &impl Print, sheet: &[u8; 65]) -> io::Result<()> {
+    say_judged(rt, sheet)
 }
 
 // The sheet with another byte at a place.
-fn say_changed(sheet: [u8; 65], at: usize, byte: u32) {
+fn say_changed(rt: &impl Print, sheet: [u8; 65], at: usize, byte: u32) -> io::Result<()> {
     let mut changed = sheet;
     if at < 65 {
         changed[at] = (byte % 256) as u8;
     }
-    say_whole(&changed);
+    say_whole(rt, &changed)
 }
 
 // The sheet with every byte at one place.
-fn say_place(sheet: [u8; 65], at: usize) {
+fn say_place(rt: &impl Print, sheet: [u8; 65], at: usize) -> io::Result<()> {
     for byte in 0..256 {
-        say_changed(sheet, at, byte);
+        say_changed(rt, sheet, at, byte)?;
     }
-    end_line();
+    end_line(rt)
 }
 
-fn say_changes(sheet: [u8; 65]) {
+fn say_changes(rt: &impl Print, sheet: [u8; 65]) -> io::Result<()> {
     for at in 0..65 {
-        say_place(sheet, at);
+        say_place(rt, sheet, at)?;
     }
+    Ok(())
 }
 
 // The first bytes of the sheet.
-fn say_cut(sheet: &[u8], end: usize) {
+fn say_cut(rt: &impl Print, sheet: &[u8], end: usize) -> io::Result<()> {
     if end <= sheet.len() {
-        say_judged(&sheet[..end]);
+        say_judged(rt, &sheet[..end])?;
     }
+    Ok(())
 }
 
-fn say_cuts(sheet: &[u8]) {
+fn say_cuts(rt: &impl Print, sheet: &[u8]) -> io::Result<()> {
     for end in 0..66 {
-        say_cut(sheet, end);
+        say_cut(rt, sheet, end)?;
     }
+    Ok(())
 }
 
-fn main() {
+fn main(rt: HostRuntime) -> io::Result<()> {
     let mut table = [0u32; 20];
     let mut room = [0u32; 80];
     let mut bytes = [0u8; 65];
     table::stable_table(&NETWORK_A, 40, &mut table, &mut room);
     sheet::write_sheet(&NETWORK_A, 40, &table, &mut bytes);
-    say_cuts(&bytes);
-    end_line();
-    say_changes(bytes);
+    say_cuts(&rt, &bytes)?;
+    end_line(&rt)?;
+    say_changes(&rt, bytes)
 }

@@ -1,6 +1,6 @@
 // What the storefront's server calls: link texts, sheets and tables as bytes and words, replies packed into one number. With link records
 // instead of a text: `links`.
-#![tactic(auto)]
+#![tactic(auto, unfolding(crate::specs::Page::sheet_reply, crate::specs::Page::final_sheet, crate::specs::Page::judge_reply, crate::specs::Page::findings_reply, crate::specs::Page::run_reply, crate::specs::Page::final_table, rules::specs::Checks::check_words, rules::specs::Judge::entries_of, sheet::specs::Form::sheet_of, rules::specs::Network::flat, crate::specs::Page::check_reply, machine::specs::Entries::final_table))]
 
 ghost use Rattle.std.specs.Prelude.{◌≡◌, length};
 ghost use Rattle.rules.specs.Checks.{base_limits};
@@ -17,8 +17,7 @@ mod text;
 mod words;
 
 // A link text to the sheet of its stable table: the number of bytes written.
-#[unsafe(no_mangle)]
-pub extern "C" fn bostuvrel_sheet(text: &[u8], destination: u32, sheet: &mut [u8]) -> u64
+pub fn bostuvrel_sheet(text: &[u8], destination: u32, sheet: &mut [u8]) -> u64
     ensures reply { result ≡ sheet_reply base_limits text.now destination (length sheet.old) }
     ensures bytes { sheet.new ≡ final_sheet base_limits text.now destination sheet.old }
 {
@@ -32,8 +31,7 @@ pub extern "C" fn bostuvrel_sheet(text: &[u8], destination: u32, sheet: &mut [u8
 }
 
 // The judge on a sheet for the links of a text: 0 where it passes.
-#[unsafe(no_mangle)]
-pub extern "C" fn bostuvrel_judge(text: &[u8], sheet: &[u8]) -> u64
+pub fn bostuvrel_judge(text: &[u8], sheet: &[u8]) -> u64
     ensures { result ≡ judge_reply base_limits 511 text.now sheet.now }
 {
     let limits = Limits::BASE;
@@ -50,8 +48,7 @@ pub extern "C" fn bostuvrel_judge(text: &[u8], sheet: &[u8]) -> u64
 }
 
 // The findings on the links of a text: 1 if a ring, plus 2 if joined.
-#[unsafe(no_mangle)]
-pub extern "C" fn bostuvrel_findings(text: &[u8]) -> u64
+pub fn bostuvrel_findings(text: &[u8]) -> u64
     ensures { result ≡ findings_reply base_limits text.now }
 {
     let mut list = [0u32; 4608];
@@ -64,8 +61,7 @@ pub extern "C" fn bostuvrel_findings(text: &[u8]) -> u64
 }
 
 // A run over the links of a text: deliveries, idle choices and quiet; the table gets the lines of that moment.
-#[unsafe(no_mangle)]
-pub extern "C" fn bostuvrel_run(
+pub fn bostuvrel_run(
     text: &[u8],
     destination: u32,
     choices: &[u32],

@@ -49,8 +49,7 @@ fn table_loaded(w: Words, destination: u32, table: &mut [u32]) -> u64
 }
 
 // The check of link records: the number of their ASes.
-#[unsafe(no_mangle)]
-pub extern "C" fn bostuvrel_check(links: &[Link]) -> u64
+pub fn bostuvrel_check(links: &[Link]) -> u64
     ensures { result ≡ check_reply base_limits (flat links.now) }
 {
     let w = records::load(links);
@@ -58,8 +57,7 @@ pub extern "C" fn bostuvrel_check(links: &[Link]) -> u64
 }
 
 // The stable table of link records: the number of table words written, four per AS.
-#[unsafe(no_mangle)]
-pub extern "C" fn bostuvrel_table(links: &[Link], destination: u32, table: &mut [u32]) -> u64
+pub fn bostuvrel_table(links: &[Link], destination: u32, table: &mut [u32]) -> u64
     ensures { PageTabled base_limits (flat links.now) destination table.old result table.new }
 {
     let w = records::load(links);

@@ -28,6 +28,7 @@ use Rattle.table.proofs.WholeLaws.{phased_Ready, phased_Framed, phased_Agreed}
 use Rattle.table.proofs.AgreedLaws.{agreed_Filled}
 
 in_some : (x : ℕ) (l : List ℕ) → In x l → 1 ≤ length l
+in_some x mathlib.Core.List.[] m = elim m [ ]
 in_some x (y ∷ l) m = omega arith
 
 pub Placed-front : (ls : List Link) (ps old : List ℕ) → ps ≡ places_of (ases_of ls) ls ++ drop (2 * length ls) old → Placed ls ps

@@ -10,7 +10,7 @@ use borrow.Author.Tests.{eq-eqb, ne_eqb}
 use lib.ListN.{length, get_or, take}
 use Rattle.rules.specs.declared.Link.{Link}
 use Rattle.rules.specs.Lists.{In}
-use Rattle.rules.specs.Offers.{Arc, best}
+use Rattle.rules.specs.Offers.{Arc}
 use Rattle.rules.specs.Network.{links_of, ases_of, arcs_of}
 use Rattle.rules.specs.Stable.{Line, Routing, line_of, told, table_of}
 use Rattle.rules.specs.Solve.{stable_of}

@@ -1,5 +1,5 @@
 // The stable table for one destination: one table, the only one in which every line is the best offer.
-#![tactic(auto)]
+#![tactic(auto, unfolding(rules::specs::Network::links_of))]
 
 ghost use Rattle.std.specs.Prelude.{◌*◌, ◌≤◌, ◌≡◌, length, replicate};
 ghost use Rattle.rules.specs.Network.{links_of};

@@ -1,0 +1,10 @@
+-- `judge_offers`: the lowest difference from the lines that are due is refusal 12 (`due_judged`).
+use Rattle.std.proofs.Common.{◌∙◌, arith, length-take}
+use Rattle.judge.proofs.DueLaws.{told_length, due_judged}
+use Rattle.judge.proofs.best.judge_offers.Goals as goal
+
+pub first_difference-requires : goal.first_difference-requires
+first_difference-requires c = simp length-take (omega (arith, told_length c.requires.1))
+
+pub returns : goal.returns
+returns c = c.first_difference.ensures ∙ due_judged _ c.requires.1 _ _ c.put_due.ensures

@@ -1,0 +1,7 @@
+-- `records::loaded::judge_sheet` meets its contract: too many links are refused as every list of too many is, and few are the words lent.
+use Rattle.records.proofs.Laws.{Holding-many}
+use Rattle.records.proofs.ManyLaws.{Judged-many}
+use Rattle.records.proofs.loaded.judge_sheet.Goals as goal
+
+pub returns-then-n-gt-MOST_LINKS : goal.returns-then-n-gt-MOST_LINKS
+returns-then-n-gt-MOST_LINKS c = Holding-many _ _ c.if-n-gt-MOST_LINKS.true (λ ls g. Judged-many ls g _ _)
