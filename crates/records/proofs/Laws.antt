@@ -1,6 +1,7 @@
 -- Lists and numbers alone. Assumes nothing.
 use mathlib.Core.Path.{◌≡◌, refl, sym, ◌∙◌, ap, subst}
 use Prim.Native.Nat.{ℕ, ◌*◌, ◌<◌, ◌≤◌}
+use native.Mathlib.Nat.{mul-le-mul_right}
 use native.Mathlib.Omega.{arith}
 use mathlib.Core.Bool.{Bool, true, false, cond}
 use mathlib.Core.List.{List, ◌++◌}
@@ -12,10 +13,23 @@ use Rattle.rules.specs.declared.Link.{Link}
 use Rattle.rules.specs.Network.{flat}
 use Rattle.rules.proofs.NetworkLaws.{flat-length}
 use Rattle.records.specs.Entries.{zeros, loaded, Holding}
+use mir.Val.{Val}
+use denote.Laws.{Is}
+use denote.Struct.Laws as LL
 use Rattle.records.specs.declared.Words.{Words}
+use Rattle.records.specs.contracts.Words as S
+use Rattle.records.proofs.Words.TheLaws as S'
 
 pub not_both : (n : ℕ) → n ≤ 1536 → 1536 < n → ⊥
 not_both n l g = omega arith
+
+-- the array in `Words` has its length: `Is` is what a call says of a parameter w
+words-length : (w : Words) (vs : List Val) → Is S.the_row w vs → length w.words ≡ 4608
+words-length w vs p = (LL.owed S.the_type S'.the_laws w vs p).1.0.1.0.1
+
+-- .. so the words of few links are within, at most three of each, and as many are lent
+pub few_within : (w : Words) (vs : List Val) → Is S.the_row w vs → w.count ≤ 1536 → {k : ℕ} → k ≤ 3 → k * w.count ≤ length w.words
+few_within w vs p few h = omega (arith, words-length w vs p, mul-le-mul_right w.count h)
 
 pub lent_length : (n : ℕ) (ws : List ℕ) → n ≤ length ws → n ≡ length (take n ws)
 lent_length n ws h = sym (length-take-le n ws h)

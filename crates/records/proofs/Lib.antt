@@ -1,3 +1,4 @@
 pub mod Parts
+pub mod Front
 pub mod Laws
 pub mod ManyLaws

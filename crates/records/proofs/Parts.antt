@@ -1,4 +1,4 @@
--- What the thin loop of `to_words` uses of numbers and lists. The words after i links are those links' words, and the rest as they were; one link
+-- What the loop of `to_words` uses of numbers and lists. The words after i links are those links' words, and the rest as they were; one link
 -- more is `more_words` of the crate linktext.
 use mathlib.Core.Path.{◌≡◌, refl, sym, ◌∙◌, ap}
 use Prim.Native.Nat.{ℕ, suc, ◌+◌, ◌*◌, ◌<◌, ◌≤◌, ◌^◌}

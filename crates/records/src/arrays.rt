@@ -1,4 +1,4 @@
-// For covered callers, which can't lend a list of records: the first links of an array by value are lent on.
+// For callers that hold up to sixteen links by value: the first n of the array are lent on.
 ghost use Rattle.std.specs.Prelude.{◌≡◌, cond, leb, take};
 ghost use Rattle.rules.specs.Network.{flat};
 ghost use Rattle.rules.specs.Checks.{base_limits, check_words};

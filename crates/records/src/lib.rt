@@ -1,5 +1,5 @@
 // The entries over a lent list of link records: the reply and all lent memory are those of the entry over words on the list as words.
-// The list is loaded once, by a thin loop that hands each link by value to a covered function.
+// The list is loaded once, by a loop that hands each link by value to `network::put_link`.
 #![tactic(auto, unfolding(rules::specs::Network::flat, rules::specs::Checks::check_words))]
 
 ghost use Rattle.std.specs.Prelude.{◌≡◌, ◌++◌, ◌+◌, ◌*◌, ◌≤◌, length, drop};
@@ -28,8 +28,7 @@ pub struct Words {
     pub words: [u32; 4608],
 }
 
-// The links' words in the first of the lent words: the thin loop, which hands each link by value to `network::put_link`. It replies how many there
-// are.
+// The links' words in the first of the lent words: the loop that hands each link to `network::put_link`. It replies how many there are.
 fn to_words(links: &[Link], words: &mut [u32]) -> usize
     requires { 3 * length links.now ≤ length words.old }
     ensures { (result ≡ length links.now)

@@ -1,4 +1,4 @@
-// The entries over links by value, for callers that can't lend a list of records: refusal 1 of too many, else the entry over words.
+// The entries over links that were loaded by value: refusal 1 of too many, else the entry over words.
 ghost use Rattle.std.specs.Prelude.{◌≡◌};
 ghost use Rattle.rules.specs.Checks.{base_limits, check_words};
 ghost use Rattle.table.specs.Entries.{Tabled};

@@ -2,7 +2,7 @@
 --
 --   entry_of r          a row of the code as a line
 --   entry_at ws i       entry i of table words, by index
---   line_from s at     the line in the eleven bytes from byte at on; line_at s i   line i of a sheet
+--   line_from s at     the line in the eleven bytes from byte at on; entry_line s i   line i of a sheet
 --   head_of d size      the ten bytes before lines of so many bytes
 --   over out old       the list out, written over the front of old
 use Rattle.std.specs.Prelude.{ℕ, ◌+◌, ◌*◌, List, [], ◌∷◌, ◌++◌, length, get_or, drop}

@@ -1,4 +1,4 @@
--- After i links each entry is the best offer over their directions, and the rest is as it was (`link-next`).
+-- After i links each entry is the best offer over their directions, and the rest is as it was (`link_next`).
 use Rattle.std.proofs.Common.{◌-◌, ◌*◌, ◌≤◌}
 use Rattle.offers.proofs.PassLaws.{HeardAt}
 use Rattle.rules.specs.Network.{links_of}

@@ -1,4 +1,4 @@
--- The entries passed have the fresh lines (`fresh-more`), one more each turn.
+-- The entries passed have the fresh lines (`fresh_more`), one more each turn.
 use Rattle.std.proofs.Common.{◌-◌, ◌≤◌, take}
 use Rattle.offers.proofs.FreshLaws.{LaidTo}
 use Rattle.offers.specs.Lines.{fresh_lines}

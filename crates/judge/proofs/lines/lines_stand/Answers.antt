@@ -1,4 +1,4 @@
--- `lines_stand`: the lines up to the shorter count, and then the counts, are the whole check (`lines-in-order`).
+-- `lines_stand`: the lines up to the shorter count, and then the counts, are the whole check (`lines_in_order`).
 use Rattle.std.proofs.Common.{min, ◌≡◌, sym, ◌∙◌, ap, ◌≢◌, arith, eqb, length, eq-eqb, ne_eqb}
 use Rattle.judge.proofs.StandLaws.{lines_judged}
 use Rattle.rules.proofs.VerdictLaws.{stopped}

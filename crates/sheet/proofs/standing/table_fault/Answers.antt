@@ -1,5 +1,5 @@
 -- `table_fault`: the lines up to the shorter count, and then the length, are the whole check (`table_in_order`).
-use Rattle.std.proofs.Common.{◌*◌, ◌≡◌, sym, ap, ◌∙◌, eqb, length, ne_eqb}
+use Rattle.std.proofs.Common.{◌*◌, ◌≡◌, sym, ap, ◌∙◌, eqb, length, rules}
 use Rattle.rules.proofs.VerdictLaws.{stopped}
 use Rattle.rules.specs.Entry.{and_then, unless}
 use Rattle.rules.specs.declared.Refusal.TheVariants.{CannotStand}
@@ -24,6 +24,6 @@ returns-in_default c = stopped _ _ _ c.in_default.is ∙ whole (goal.at.returns-
 
 pub returns : goal.returns
 returns c =
-    let A = c.args in
-    let differ = ne_eqb (length A.table.now) (4 * length A.ases.now) c.if-table-n.false in
-    rw (c.in-Passes.is, differ) at (whole (goal.at.returns c).After-lines_fault-fault)
+    let w = whole (goal.at.returns c).After-lines_fault-fault in
+    let s = c.in-Passes.is in
+    search (rules, w, s)

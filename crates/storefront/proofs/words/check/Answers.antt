@@ -1,4 +1,4 @@
--- `words::check`: the reply of the check, case by case (`check_accepts`, `check-refuses`).
+-- `words::check`: the reply of the check, case by case (`check_accepts`, `check_refuses`).
 use Rattle.std.proofs.Common.{sym, ◌∙◌}
 use Rattle.storefront.proofs.TableLaws.{bad_links_Placed, check_accepts}
 use Rattle.storefront.proofs.words.check.Goals as goal

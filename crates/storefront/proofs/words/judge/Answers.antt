@@ -1,4 +1,4 @@
--- `words::judge`: the verdict of the judge, case by case (`judged-passes`, `judged-refused`).
+-- `words::judge`: the verdict of the judge, case by case (`Judged-passes`, `Judged-refused`).
 use Rattle.storefront.proofs.WordLaws.{judged_Placed}
 use Rattle.storefront.proofs.words.judge.Goals as goal
 

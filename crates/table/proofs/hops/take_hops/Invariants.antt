@@ -1,4 +1,4 @@
--- `table::hops::take_hops` meets its contract: after i turns the first i entries have their next hops. A turn is `hopped-more`.
+-- `table::hops::take_hops` meets its contract: after i turns the first i entries have their next hops. A turn is `Hopped-more`.
 use Rattle.std.proofs.Common.{◌≤◌, ◌-◌}
 use Rattle.table.specs.Steps.{Hopped}
 use Rattle.table.proofs.hops.take_hops.Given as goal

@@ -1,4 +1,4 @@
--- `table::phases::pass` meets its contract: after k turns the first k ways were looked at. A turn is `passed-more`; what a pass asks of
+-- `table::phases::pass` meets its contract: after k turns the first k ways were looked at. A turn is `Passed-more`; what a pass asks of
 -- the table is kept by every gain.
 use Rattle.std.proofs.Common.{◌*◌, ◌-◌, ◌≤◌, length}
 use Rattle.rules.specs.Network.{links_of}
