@@ -2,7 +2,6 @@
 // held to the file stdout, which the second program wrote.
 #![tactic(auto)]
 
-use rules::Verdict;
 use std::io;
 
 // Network A: 10|20|-1, 20|30|-1, 30|40|-1, 10|40|0, 10|50|-1.
@@ -21,8 +20,8 @@ fn end_line(rt: &impl Print) -> io::Result<()> {
 fn say_judged(rt: &impl Print, sheet: &[u8]) -> io::Result<()> {
     let mut room = [0u32; 80];
     match judge::judge_sheet(&NETWORK_A, sheet, &mut room) {
-        Verdict::Passes => say_pair(rt, 0, 0),
-        Verdict::Refused(why) => say_pair(rt, why.number(), why.place()),
+        Ok(()) => say_pair(rt, 0, 0),
+        Err(why) => say_pair(rt, why.number(), why.place()),
     }
 }
 
@@ -73,8 +72,8 @@ fn main(rt: HostRuntime) -> io::Result<()> {
     let mut table = [0u32; 20];
     let mut room = [0u32; 80];
     let mut bytes = [0u8; 65];
-    table::stable_table(&NETWORK_A, 40, &mut table, &mut room);
-    sheet::write_sheet(&NETWORK_A, 40, &table, &mut bytes);
+    let _ = table::stable_table(&NETWORK_A, 40, &mut table, &mut room);
+    let _ = sheet::write_sheet(&NETWORK_A, 40, &table, &mut bytes);
     say_cuts(&rt, &bytes)?;
     end_line(&rt)?;
     say_changes(&rt, bytes)
