@@ -25,53 +25,26 @@ use Rattle.offers.proofs.FillLaws.{fill_two}
 
 -- What a search says ------------------------------------------------------------------------------------------------------
 
-module _ {l : List ℕ} {n x : ℕ} (a : Among l n x) where
-  long : length (take n l) ≡ n
-  long = length-take-le n l a.within
+module _ {ls : List Link} {us : List ℕ} (listed : us ≡ ases_of ls) where
+  pub searchable : Ascending (take (length us) us)
+  searchable = rw (take-length us, listed) (ases_Ascending ls)
 
-  -- x stands at its place
-  stands : (index_in (take n l) x < length (take n l)) × (get_or (take n l) (index_in (take n l) x) 0 ≡ x)
-  stands = place-In (take n l) x a.member
+  -- what stands at a place stands nowhere else
+  pub only_place : (i : ℕ) {x : ℕ} → i < length us → get_or us i 0 ≡ x → i ≡ index_in us x
+  only_place i h e = sym (place_at us (rw listed (ases_Distinct ls)) i h) ∙ ap (index_in us) e
 
-  pub somewhere : {r : Place} → Stands l n x r → r ≡ Nowhere → ⊥
-  somewhere s e =
-      let h : index_in (take n l) x < n = omega (arith, long, stands.0) in
-      subst (Stands l n x) e s (index_in (take n l) x) h (sym (get_or-take n l (index_in (take n l) x) 0 h) ∙ stands.1)
+-- an AS that is there is found
+pub somewhere : (us : List ℕ) {x : ℕ} → In x us → ((i : ℕ) → i < length us → slice_index us i ≢ x) → ⊥
+somewhere us {x} m none = let p = place-In us x m in none (index_in us x) p.0 p.1
 
-  -- and nowhere else
-  pub at_place : {r : Place} → Stands l n x r → {i : ℕ} → r ≡ At i → (i < n) × (i ≡ index_in (take n l) x)
-  at_place s {i} e =
-      let (h, f) = subst (Stands l n x) e s in
-      (h, go (omega (arith, long)) (get_or-take n l i 0 h ∙ f) (dec_lt i (index_in (take n l) x)) (dec_lt (index_in (take n l) x) i))
-    where
-      go : i < length (take n l) → get_or (take n l) i 0 ≡ x → Dec (i < index_in (take n l) x) → Dec (index_in (take n l) x < i) → i ≡ index_in (take n l) x
-      go h f (yes b) d = absurd (omega (arith, ascending_at (take n l) a.ascending i (index_in (take n l) x) b stands.0, stands.1))
-      go h f (no b) (yes d) = absurd (omega (arith, ascending_at (take n l) a.ascending (index_in (take n l) x) i d h, stands.1))
-      go h f (no b) (no d) = omega arith
+-- the ends of the links are among the ASes
+pub ends_In : {ws us : List ℕ} → us ≡ ases_of (links_of ws) → (i : ℕ) {x : ℕ} → i < length (links_of ws) → Ends x (link_in_words ws i) → In x us
+ends_In {ws} listed i {x} h e = rw listed (ases_In (links_of ws) x (link_in_words ws i) (link_In ws i (omega (arith, count ws))) e)
 
--- the ends of the links are among the first n words, which ascend
+-- the network's list
 module _ {ws l : List ℕ} {n : ℕ} {ps : List ℕ} (w : Placing ws l n ps) where
   pub ases_within : n ≤ length l
   ases_within = omega (arith, simp length-take at (ap length w.list), w.count)
-
-  pub Ends-Among : (i x : ℕ) → i < length (links_of ws) → Ends x (link_in_words ws i) → Among l n x
-  Ends-Among i x h e =
-      let m = link_In ws i (omega (arith, count ws)) in
-      record {
-        within = ases_within;
-        few = w.few;
-        ascending = rw w.list (ases_Ascending (links_of ws));
-        member = rw w.list (ases_In (links_of ws) x (link_in_words ws i) m e);
-      }
-
-  -- what two searches and two stores make
-  pub ends_put : (i a b : ℕ) (k : Link) → k ≡ link_in_words ws i → a ≡ index_in (take n l) k.a → b ≡ index_in (take n l) k.b
-      → set (set ps (2 * i) a) (2 * i + 1) b ≡ put_ends (ases_of (links_of ws)) ps i (link_in_words ws i)
-  ends_put i a b k is p q = rw (p, q, w.list, is)
-
-  -- the same for other words as many
-  pub Placing-kept : {qs : List ℕ} → length qs ≡ length ps → Placing ws l n qs
-  Placing-kept e = record { list = w.list; count = w.count; few = w.few; room = omega (arith, w.room) }
 
 -- One link more -------------------------------------------------------------------------------------------------------------
 

@@ -58,6 +58,14 @@ module _ {R : Routing} {us : List ℕ} {i : ℕ} {old new : List ℕ} (e : LaidT
             ∙ rw (four, table_append R us (u ∷ []), table_one R u);
       }
 
+-- one AS more of a list, with what it gets
+pub laid_next : {R : Routing} (us : List ℕ) {i : ℕ} {old new : List ℕ} → LaidTo R (take i us) i old new → i < length us → 4 * i + 4 ≤ length old
+    → (u : ℕ) (p : TypeLength) → u ≡ get_or us i 0 → p ≡ (R u).pair → (R u).next ≡ u
+    → LaidTo R (take (i + 1) us) (i + 1) old (with_entry new i u (record { pair = p; next = u }))
+laid_next us {i} e h g u p is f n =
+    let one : suc i ≡ i + 1 = omega arith in
+    rw (← one, take-suc us i 0 h, ← is, f) (rw n at (laid_more e g u))
+
 -- Before anything is told ----------------------------------------------------------------------------------------------------
 
 pub fresh_own : (d u : ℕ) → u ≡ d → (fresh_lines d u).pair ≡ origin_of
@@ -76,10 +84,3 @@ fresh_next d u = go (ℕ_discrete u d)
     go : Dec (u ≡ d) → (fresh_lines d u).next ≡ u
     go (yes e) = ap (λ (l : Line). l.next) (changed_same lost d (own d) u e) ∙ sym e
     go (no ne) = ap (λ (l : Line). l.next) (changed_other lost d (own d) u ne)
-
-pub fresh_more : (d : ℕ) (list : List ℕ) {i : ℕ} {old new : List ℕ} → LaidTo (fresh_lines d) (take i list) i old new → i < length list
-    → 4 * i + 4 ≤ length old → (u : ℕ) (p : TypeLength) → u ≡ get_or list i 0 → p ≡ (fresh_lines d u).pair
-    → LaidTo (fresh_lines d) (take (i + 1) list) (i + 1) old (with_entry new i u (record { pair = p; next = u }))
-fresh_more d list {i} e h g u p is f =
-    let one : suc i ≡ i + 1 = omega arith in
-    rw (← one, take-suc list i 0 h, ← is, f) (rw (fresh_next d u) at (laid_more e g u))

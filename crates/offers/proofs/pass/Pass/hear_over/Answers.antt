@@ -1,6 +1,6 @@
 -- What goes on is compared with the hearer's offer; what does not changes nothing (`stays_out`).
 use Rattle.offers.proofs.ConsiderLaws.{goes_tested, stays_out}
-use Rattle.offers.proofs.pass.hear_over.Goals as goal
+use Rattle.offers.proofs.pass.Pass.hear_over.Goals as goal
 
 pub returns-else-goes_on : goal.returns-else-goes_on
 returns-else-goes_on c =
