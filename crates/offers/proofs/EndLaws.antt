@@ -4,42 +4,45 @@ use Prim.Native.Nat.{ℕ, zero, suc, ◌+◌, ◌*◌, ◌≤◌, ◌<◌}
 use mathlib.Core.Path.{◌≡◌, refl, sym, ◌∙◌, ap, subst}
 use mathlib.Core.List.{List, [], ◌∷◌, ◌++◌}
 use native.Mathlib.Omega.{arith}
-use native.Mathlib.Decide.{dec_lt}
 use lib.ListN.{length, get_or, set, take, drop, length-append, length-take, length-drop}
-use lib.Seq.{length-take-le, take-length, take_at, get_or-take}
+use lib.Seq.{length-take-le, take-length, take_at}
+use Rattle.std.specs.Prelude.{Option, Some, None, IsSome}
 use Rattle.rules.specs.declared.Link.{Link}
+use Rattle.rules.specs.Lists.{In}
+use Rattle.rules.specs.Ascending.{Ascending}
 use Rattle.rules.specs.Network.{links_of, link_in_words, ases_of}
-use Rattle.rules.proofs.NetworkLaws.{Ends, ases_Ascending, ases_In}
-use Rattle.network.specs.declared.Place.{Place}
-use Rattle.network.specs.declared.Place.TheVariants.{At, Nowhere}
+use Rattle.rules.proofs.NetworkLaws.{Ends, ases_Ascending, ases_Distinct, ases_In}
 use Rattle.network.specs.Promises.{Stands, Listed}
-use Rattle.network.proofs.InsertLaws.{ascending_at}
 use Rattle.network.proofs.ListedLaws.{listed_front}
 use Rattle.network.proofs.PrefixLaws.{count}
 use Rattle.offers.specs.Ways.{ends_of, index_in, places_of, no_link}
 use Rattle.offers.specs.Steps.{Placed}
-use Rattle.offers.specs.Placing.{Among, Placing, put_ends, with_places}
-use Rattle.offers.proofs.PlaceLaws.{place-In, places_length}
+use Rattle.offers.specs.Placing.{Placing, put_ends, with_places}
+use Rattle.offers.proofs.PlaceLaws.{place-In, place_at, places_length}
 use Rattle.offers.proofs.WayLaws.{link_In}
 use Rattle.offers.proofs.FillLaws.{fill_two}
 
 -- What a search says ------------------------------------------------------------------------------------------------------
 
-module _ {ls : List Link} {us : List ℕ} (listed : us ≡ ases_of ls) where
-  pub searchable : Ascending (take (length us) us)
-  searchable = rw (take-length us, listed) (ases_Ascending ls)
+pub searchable : (ls : List Link) {us : List ℕ} → us ≡ ases_of ls → Ascending (take (length us) us)
+searchable ls {us} listed = rw (take-length us, listed) (ases_Ascending ls)
 
-  -- what stands at a place stands nowhere else
-  pub only_place : (i : ℕ) {x : ℕ} → i < length us → get_or us i 0 ≡ x → i ≡ index_in us x
-  only_place i h e = sym (place_at us (rw listed (ases_Distinct ls)) i h) ∙ ap (index_in us) e
+-- what stands at a place stands nowhere else
+pub only_place : (ls : List Link) {us : List ℕ} → us ≡ ases_of ls → (i : ℕ) {x : ℕ} → i < length us → get_or us i 0 ≡ x → i ≡ index_in us x
+only_place ls {us} listed i h e = sym (place_at us (rw listed (ases_Distinct ls)) i h) ∙ ap (index_in us) e
 
 -- an AS that is there is found
-pub somewhere : (us : List ℕ) {x : ℕ} → In x us → ((i : ℕ) → i < length us → slice_index us i ≢ x) → ⊥
-somewhere us {x} m none = let p = place-In us x m in none (index_in us x) p.0 p.1
+pub found : (us : List ℕ) (x : ℕ) → In x us → (r : Option ℕ) → Stands us (length us) x r → IsSome r
+found us x m (Some i) s = refl
+found us x m None s = let p = place-In us x m in absurd (s (index_in us x) p.0 p.1)
+
+-- and at its place
+pub found_place : (ls : List Link) {us : List ℕ} → us ≡ ases_of ls → (x : ℕ) {i : ℕ} {r : Option ℕ} → Stands us (length us) x r → r ≡ Some i → i ≡ index_in us x
+found_place ls {us} listed x {i} s e = let p = subst (Stands us (length us) x) e s in only_place ls listed i p.0 p.1
 
 -- the ends of the links are among the ASes
-pub ends_In : {ws us : List ℕ} → us ≡ ases_of (links_of ws) → (i : ℕ) {x : ℕ} → i < length (links_of ws) → Ends x (link_in_words ws i) → In x us
-ends_In {ws} listed i {x} h e = rw listed (ases_In (links_of ws) x (link_in_words ws i) (link_In ws i (omega (arith, count ws))) e)
+pub ends_In : (ws : List ℕ) {us : List ℕ} → us ≡ ases_of (links_of ws) → (i : ℕ) {x : ℕ} → i < length (links_of ws) → Ends x (link_in_words ws i) → In x us
+ends_In ws listed i {x} h e = rw listed (ases_In (links_of ws) x (link_in_words ws i) (link_In ws i (omega (arith, count ws))) e)
 
 -- the network's list
 module _ {ws l : List ℕ} {n : ℕ} {ps : List ℕ} (w : Placing ws l n ps) where

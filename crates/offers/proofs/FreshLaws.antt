@@ -8,7 +8,7 @@ use mathlib.Core.List.{List, [], ◌∷◌, ◌++◌}
 use native.Mathlib.Omega.{arith}
 use native.Mathlib.Decide.{ℕ_discrete}
 use lib.ListN.{length, get_or, take, drop, length-append, length-drop}
-use lib.Seq.{take-suc, drop_at}
+use lib.Seq.{take-suc, take_all, drop_at}
 use Rattle.rules.specs.declared.TypeLength.{TypeLength}
 use Rattle.rules.specs.Pairs.{origin_of, unreachable_of}
 use Rattle.rules.specs.Stable.{Line, Routing, own, lost, table_of}
@@ -65,6 +65,10 @@ pub laid_next : {R : Routing} (us : List ℕ) {i : ℕ} {old new : List ℕ} →
 laid_next us {i} e h g u p is f n =
     let one : suc i ≡ i + 1 = omega arith in
     rw (← one, take-suc us i 0 h, ← is, f) (rw n at (laid_more e g u))
+
+pub laid_all : {R : Routing} (us : List ℕ) {i n : ℕ} {old new : List ℕ} → LaidTo R (take i us) i old new → i ≡ n → length us ≡ n
+    → new ≡ table_of R us ++ drop (4 * n) old
+laid_all us {n = n} e is long = rw (is, take_all n us (omega arith)) at e.words
 
 -- Before anything is told ----------------------------------------------------------------------------------------------------
 

@@ -16,8 +16,7 @@ use Rattle.rules.specs.Stable.{lost, line_of, told, table_of}
 use Rattle.rules.proofs.ArcLaws.{arcs_length}
 use Rattle.rules.proofs.LineLaws.{table_length, table_same}
 use Rattle.offers.specs.Lines.{number_word, with_entry, printed}
-use Rattle.offers.specs.Electing.{numbers_of, best_after, with_heard, with_offers, Electing, Hearing}
-use Rattle.offers.proofs.FreshLaws.{LaidTo, laid_none, laid_rest, laid_more}
+use Rattle.offers.specs.Electing.{best_after, with_heard, with_offers, Electing, Hearing}
 
 -- Directions ------------------------------------------------------------------------------------------------------------------
 

@@ -5,14 +5,17 @@ ghost use Rattle.rules.specs.Network.{links_of, link_in_words, ases_of};
 ghost use Rattle.offers.specs.Ways.{index_in};
 ghost use Rattle.offers.specs.Placing.{kind_of_direction, put_ends};
 
-use network::Place;
 use rules::Link;
 
 // The kind of direction k, which is the link's, seen from its hearer.
 pub fn kind_over(link: Link, k: usize) -> u32
     ensures { result ≡ kind_of_direction link k }
 {
-    if k % 2 == 0 { link.kind_from_b() } else { link.kind_from_a() }
+    if k % 2 == 0 {
+        link.kind_from_b()
+    } else {
+        link.kind_from_a()
+    }
 }
 
 // Word k of the places.
@@ -71,10 +74,8 @@ impl Roster<'_> {
         if let Some(i) = self.hinted(x) {
             return i as u32;
         }
-        let Place::At(i) = network::place_of(self.ases, self.ases.len(), x) else {
-            unreachable!()
-        };
-        i as u32
+        let place = network::place_of(self.ases, self.ases.len(), x);
+        place.unwrap() as u32
     }
 
     // The two ends of link i.

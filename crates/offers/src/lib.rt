@@ -33,7 +33,7 @@ pub struct Way {
 }
 
 // An offer: a pair, its rank among equal ones, and the next hop that it stands for.
-#[derive(Clone, Copy)]
+#[derive(Clone, Copy, Debug, PartialEq, Eq)]
 pub struct Offered {
     pub pair: TypeLength,
     pub rank: u32,
@@ -105,7 +105,11 @@ pub fn lay_fresh_lines(table: &mut [u32], list: &[u32], n: usize, destination: u
     requires { (4 * n ≤ length table.old) × (n ≤ length list.now) }
     ensures { table.new ≡ table_of (fresh_lines destination) (take n list.now) ++ drop (4 * n) table.old }
 {
-    fresh::lay_entries(table, n, |i| (list[i], fresh::first_pair(list[i], destination)));
+    fresh::lay_entries(
+        table,
+        n,
+        |i| (list[i], fresh::first_pair(list[i], destination)),
+    );
 }
 
 // Where the ends of the links stand among their ASes, which are the first n words of a list: two words per link, a's place and b's.
