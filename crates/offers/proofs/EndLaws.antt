@@ -44,11 +44,6 @@ found_place ls {us} listed x {i} s e = let p = subst (Stands us (length us) x) e
 pub ends_In : (ws : List ℕ) {us : List ℕ} → us ≡ ases_of (links_of ws) → (i : ℕ) {x : ℕ} → i < length (links_of ws) → Ends x (link_in_words ws i) → In x us
 ends_In ws listed i {x} h e = rw listed (ases_In (links_of ws) x (link_in_words ws i) (link_In ws i (omega (arith, count ws))) e)
 
--- the network's list
-module _ {ws l : List ℕ} {n : ℕ} {ps : List ℕ} (w : Placing ws l n ps) where
-  pub ases_within : n ≤ length l
-  ases_within = omega (arith, simp length-take at (ap length w.list), w.count)
-
 -- One link more -------------------------------------------------------------------------------------------------------------
 
 places_more : (us : List ℕ) (ls : List Link) (i : ℕ) → i < length ls
@@ -87,20 +82,3 @@ module _ {ls : List Link} {i : ℕ} {old new : List ℕ} (e : EndsAt ls i old ne
 pub ends_none : (ls : List Link) (old : List ℕ) → EndsAt ls 0 old old
 unfolding places_of ends_of
 ends_none ls old = record { words = refl }
-
--- For callers -----------------------------------------------------------------------------------------------------------------
-
--- the ASes that the network lists
-pub Listed-Placing : {ws l u : List ℕ} {n : ℕ} {ps : List ℕ} → Listed (ases_of (links_of ws)) l u n → n < 4294967296 → 2 * length (links_of ws) ≤ length ps
-    → Placing ws u n ps
-Listed-Placing {ws} {l} {u} {n} e few room =
-    record {
-      list = listed_front e;
-      count = e.count;
-      few = few;
-      room = room;
-    }
-
--- the places stand in front
-pub with_Placed : (ls : List Link) (ps : List ℕ) → Placed ls (with_places ls ps)
-with_Placed ls ps = take_at (places_of (ases_of ls) ls) (drop (2 * length ls) ps) (2 * length ls) (places_length (ases_of ls) ls)

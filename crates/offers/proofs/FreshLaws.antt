@@ -35,9 +35,6 @@ module _ {R : Routing} {us : List ℕ} {i : ℕ} {old new : List ℕ} (e : LaidT
   pub laid_long : 4 * i ≤ length old → length new ≡ length old
   laid_long h = omega (arith, simp (length-append, length-drop) at (ap length e.words), front)
 
-  pub laid_rest : drop (4 * i) new ≡ drop (4 * i) old
-  laid_rest = ap (drop (4 * i)) e.words ∙ drop_at (table_of R us) (drop (4 * i) old) (4 * i) front
-
   pub laid_number : (j : ℕ) → j < i → number_word new j ≡ get_or us j 0
   laid_number j h = rw e.words (table_number R (drop (4 * i) old) us j (omega (arith, e.count)))
 

@@ -36,10 +36,6 @@ module _ {ls : List Link} {t : List ℕ} {k : ℕ} {old new : List ℕ} (e : Hea
       ap (drop (4 * length (ases_of ls))) e.words
       ∙ drop_at (table_of R (ases_of ls)) (drop (4 * length (ases_of ls)) old) (4 * length (ases_of ls)) (table_length R (ases_of ls))
 
-  pub heard_long : 4 * length (ases_of ls) ≤ length old → length new ≡ length old
-  heard_long h =
-      omega (arith, simp (length-append, length-drop) at (ap length e.words), table_length (best_after ls t (length (ases_of ls)) k) (ases_of ls))
-
   pub heard_next : (j : ℕ) {newer : List ℕ} → newer ≡ with_heard ls t j new → HeardAt ls t j old newer
   heard_next j f = record { words = rw heard_rest at f }
 

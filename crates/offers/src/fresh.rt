@@ -7,13 +7,15 @@ use crate::WORDS_PER_ENTRY;
 use rules::TypeLength;
 
 // The pair of an AS before anything is told.
+#[tactic(auto, using(crate::proofs::FreshLaws::fresh_own, crate::proofs::FreshLaws::fresh_other))]
 pub fn first_pair(number: u32, destination: u32) -> TypeLength
     ensures { result ≡ (fresh_lines destination number).pair }
 {
     if number == destination {
-        return TypeLength::ORIGIN;
+        TypeLength::ORIGIN
+    } else {
+        TypeLength::UNREACHABLE
     }
-    TypeLength::UNREACHABLE
 }
 
 // Entry i gets an AS and a pair, with the AS itself as next hop.

@@ -139,6 +139,7 @@ pub fn partner(k: usize) -> usize
 }
 
 // Direction k: 2i from a to b of link i, 2i + 1 from b to a.
+#[tactic(auto, using(crate::proofs::WayLaws::way_words))]
 pub fn way_at(words: &[u32], places: &[u32], k: usize) -> Way
     requires { HasLink words.now (k / 2) × (2 * (k / 2) + 2 ≤ length places.now) }
     ensures { result ≡ way_of_direction (links_of words.now) places.now k }

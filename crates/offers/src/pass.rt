@@ -52,6 +52,7 @@ pub struct Pass<'a> {
 
 impl Pass<'_> {
     // What the neighbour's line gives over a direction that it goes on over: the kind is its type.
+    #[tactic(auto, using(crate::proofs::ConsiderLaws::goes_over))]
     fn told_over(&self, way: Way) -> Offered
         requires { Telling way self.now.told.now × (is_passed_on way.kind (type_word self.now.told.now way.neighbour) ≡ true) }
         ensures { result ≡ told_offer self.now.told.now way }
