@@ -4,20 +4,18 @@ use Prim.Native.Nat.{ℕ, zero, suc, ◌+◌, ◌*◌, ◌≤◌, ◌<◌}
 use mathlib.Core.Path.{◌≡◌, refl, sym, ◌∙◌, ap, subst}
 use mathlib.Core.List.{List, [], ◌∷◌, ◌++◌}
 use native.Mathlib.Omega.{arith}
-use lib.ListN.{length, get_or, set, take, drop, length-append, length-take, length-drop}
-use lib.Seq.{length-take-le, take-length, take_at}
+use lib.ListN.{length, get_or, take, drop, length-append, length-drop}
+use lib.Seq.{length-take-le, take-length}
 use Rattle.std.specs.Prelude.{Option, Some, None, IsSome}
 use Rattle.rules.specs.declared.Link.{Link}
 use Rattle.rules.specs.Lists.{In}
 use Rattle.rules.specs.Ascending.{Ascending}
 use Rattle.rules.specs.Network.{links_of, link_in_words, ases_of}
 use Rattle.rules.proofs.NetworkLaws.{Ends, ases_Ascending, ases_Distinct, ases_In}
-use Rattle.network.specs.Promises.{Stands, Listed}
-use Rattle.network.proofs.ListedLaws.{listed_front}
+use Rattle.network.specs.Promises.{Stands}
 use Rattle.network.proofs.PrefixLaws.{count}
 use Rattle.offers.specs.Ways.{ends_of, index_in, places_of, no_link}
-use Rattle.offers.specs.Steps.{Placed}
-use Rattle.offers.specs.Placing.{Placing, put_ends, with_places}
+use Rattle.offers.specs.Placing.{put_ends, with_places}
 use Rattle.offers.proofs.PlaceLaws.{place-In, place_at, places_length}
 use Rattle.offers.proofs.WayLaws.{link_In}
 use Rattle.offers.proofs.FillLaws.{fill_two}

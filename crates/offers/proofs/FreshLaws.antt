@@ -8,7 +8,7 @@ use mathlib.Core.List.{List, [], ◌∷◌, ◌++◌}
 use native.Mathlib.Omega.{arith}
 use native.Mathlib.Decide.{ℕ_discrete}
 use lib.ListN.{length, get_or, take, drop, length-append, length-drop}
-use lib.Seq.{take-suc, take_all, drop_at}
+use lib.Seq.{take-suc, take_all}
 use Rattle.rules.specs.declared.TypeLength.{TypeLength}
 use Rattle.rules.specs.Pairs.{origin_of, unreachable_of}
 use Rattle.rules.specs.Stable.{Line, Routing, own, lost, table_of}

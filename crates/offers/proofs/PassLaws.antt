@@ -2,20 +2,19 @@
 -- first k arcs; direction k changes the entry of its hearer alone.
 --
 --   HeardAt ls t k old new   new is old with the best offers over the first k directions in front
-use Prim.Native.Nat.{ℕ, zero, suc, ◌+◌, ◌*◌, ◌≤◌, ◌<◌}
-use mathlib.Core.Path.{◌≡◌, refl, sym, ◌∙◌, ap}
+use Prim.Native.Nat.{ℕ, ◌*◌, ◌<◌}
+use mathlib.Core.Path.{◌≡◌, refl, ◌∙◌, ap}
 use mathlib.Core.List.{List, ◌++◌}
 use native.Mathlib.Omega.{arith}
-use lib.ListN.{length, get_or, take, drop, length-append, length-drop}
-use lib.Seq.{take-suc, take_at, drop_at, take_all}
+use lib.ListN.{length, take, drop}
+use lib.Seq.{take_at, drop_at, take_all}
 use Rattle.rules.specs.declared.Link.{Link}
-use Rattle.rules.specs.Pairs.{unreachable_of}
 use Rattle.rules.specs.Offers.{Arc, none, elect, best}
 use Rattle.rules.specs.Network.{ases_of, arcs_of}
 use Rattle.rules.specs.Stable.{lost, line_of, told, table_of}
 use Rattle.rules.proofs.ArcLaws.{arcs_length}
 use Rattle.rules.proofs.LineLaws.{table_length, table_same}
-use Rattle.offers.specs.Lines.{number_word, with_entry, printed}
+use Rattle.offers.specs.Lines.{printed}
 use Rattle.offers.specs.Electing.{best_after, with_heard, with_offers, Electing, Hearing}
 
 -- Directions ------------------------------------------------------------------------------------------------------------------

@@ -5,15 +5,14 @@ use mathlib.Core.Path.{◌≡◌, refl, sym, ◌∙◌, ap}
 use mathlib.Core.Logic.{◌≢◌}
 use mathlib.Core.List.{List, [], ◌∷◌, ◌++◌}
 use native.Mathlib.Omega.{arith}
-use lib.ListN.{length, get_or, length-append}
+use lib.ListN.{length, get_or}
 use borrow.Author.Tests.{eq-eqb, ne_eqb}
-use Rattle.rules.specs.Lists.{In, Without, Distinct}
-use Rattle.rules.specs.Stable.{Line, Routing, lost, table_of}
+use Rattle.rules.specs.Lists.{Distinct}
+use Rattle.rules.specs.Stable.{Line, Routing, table_of}
 use Rattle.rules.specs.Judge.{entries_of, routing_of}
-use Rattle.rules.proofs.LineLaws.{table_length, table_same}
+use Rattle.rules.proofs.LineLaws.{table_same}
 use Rattle.offers.specs.Lines.{number_word, entry_line, with_line, printed}
-use Rattle.offers.specs.Ways.{index_in}
-use Rattle.offers.proofs.PlaceLaws.{without_at, place-In}
+use Rattle.offers.proofs.PlaceLaws.{without_at}
 
 -- One entry on -----------------------------------------------------------------------------------------------------------
 

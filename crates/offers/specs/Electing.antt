@@ -7,7 +7,7 @@
 --   Electing ls ps t n what the pass asks: places of the links' ends, and a table of their ASes whose lengths leave room for one link more
 --   Hearer b w         the hearer of w has an entry in b, whose offer is fair
 --   Hearing ls t b k   what it asks at direction k: b has the best offers over those before it
-use Rattle.std.specs.Prelude.{ℕ, zero, suc, ◌+◌, ◌*◌, ◌≤◌, ◌<◌, ◌≡◌, List, [], ◌∷◌, ◌++◌, length, get_or, take, drop}
+use Rattle.std.specs.Prelude.{ℕ, ◌+◌, ◌*◌, ◌≤◌, ◌<◌, ◌≡◌, List, ◌++◌, length, get_or, take, drop}
 use Rattle.rules.specs.declared.Link.{Link}
 use Rattle.rules.specs.Offers.{choose, best}
 use Rattle.rules.specs.Network.{ases_of, arcs_of}

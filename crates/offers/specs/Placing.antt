@@ -7,8 +7,6 @@
 use Rattle.std.specs.Prelude.{ℕ, ◌+◌, ◌*◌, ◌%◌, ◌≤◌, ◌<◌, ◌≡◌, cond, List, ◌++◌, eqb, length, take, drop, set}
 use Rattle.rules.specs.declared.Link.{Link}
 use Rattle.rules.specs.Pairs.{kind_from_a, kind_from_b}
-use Rattle.rules.specs.Lists.{In}
-use Rattle.rules.specs.Ascending.{Ascending}
 use Rattle.rules.specs.Network.{links_of, ases_of}
 use Rattle.offers.specs.Ways.{index_in, places_of}
 

@@ -67,6 +67,7 @@ impl Roster<'_> {
     }
 
     // Where one of the ASes stands.
+    #[tactic(auto, using(crate::proofs::EndLaws::searchable, crate::proofs::EndLaws::only_place, crate::proofs::EndLaws::found, crate::proofs::EndLaws::found_place))]
     fn place_of(&self, x: u32) -> u32
         requires { In x self.now.ases.now }
         ensures { result ≡ index_in self.now.ases.now x }
@@ -79,6 +80,7 @@ impl Roster<'_> {
     }
 
     // The two ends of link i.
+    #[tactic(auto, using(network::proofs::PrefixLaws::count, crate::proofs::EndLaws::ends_In))]
     pub fn place_link(&self, i: usize, places: &mut [u32])
         requires { (i < length (links_of self.now.words.now)) × (2 * i + 2 ≤ length places.old) }
         ensures { places.new ≡ put_ends self.now.ases.now places.old i (link_in_words self.now.words.now i) }

@@ -113,6 +113,7 @@ pub fn lay_fresh_lines(table: &mut [u32], list: &[u32], n: usize, destination: u
 }
 
 // Where the ends of the links stand among their ASes, which are the first n words of a list: two words per link, a's place and b's.
+#[tactic(auto, using(network::proofs::PrefixLaws::count, crate::proofs::EndLaws::ends_none))]
 pub fn place_ends(words: &[u32], list: &[u32], n: usize, places: &mut [u32])
     requires { Placing words.now list.now n places.old }
     ensures { places.new ≡ with_places (links_of words.now) places.old }
@@ -162,6 +163,7 @@ pub fn offer_of(pair: TypeLength, next: u32) -> Offered
 }
 
 // The better of the best offer so far and what a neighbour, numbered `from` and with the pair that it told, offers over a direction.
+#[tactic(auto, using(crate::proofs::ConsiderLaws::considered, crate::proofs::ConsiderLaws::choose_new, crate::proofs::ConsiderLaws::choose_old))]
 pub fn consider(best: Offered, way: Way, from: u32, told: TypeLength) -> Offered
     requires { (told.length + way.cost < 4294967296) × Fair best }
     ensures { Considered best way from told result }
@@ -171,6 +173,7 @@ pub fn consider(best: Offered, way: Way, from: u32, told: TypeLength) -> Offered
 }
 
 // Every AS's line as the best offer that the first n lines of a table give it, the others as told. One pass over the links.
+#[tactic(auto, using(network::proofs::PrefixLaws::count, crate::proofs::PassLaws::hearing, crate::proofs::PassLaws::heard_next))]
 pub fn elect_links(words: &[u32], places: &[u32], told: &[u32], best: &mut [u32], n: usize)
     requires { Electing (links_of words.now) places.now told.now n × (4 * n ≤ length best.old) }
     ensures { best.new ≡ with_offers (links_of words.now) told.now n best.old }

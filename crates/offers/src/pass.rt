@@ -18,6 +18,7 @@ pub fn offer_at(t: &[u32], i: usize) -> Offered
 }
 
 // Entry i keeps the better of its offer and another.
+#[tactic(auto, using(crate::proofs::ConsiderLaws::keep_new, crate::proofs::ConsiderLaws::keep_old))]
 pub fn keep_better(t: &mut [u32], i: usize, new: Offered)
     requires { 4 * i + 4 ≤ length t.old }
     ensures { t.new ≡ with_better t.old i new }
@@ -35,6 +36,7 @@ fn last_over(kind: u32) -> u32
 }
 
 // Whether a neighbour's type goes on over a link of this kind: over a provider link every reachable one, over another type 1 alone.
+#[tactic(auto, using(crate::proofs::FlatLaws::goes_tests))]
 pub fn goes_on(kind: u32, typ: u32) -> bool
     ensures { result ≡ is_passed_on kind typ }
 {
@@ -66,6 +68,7 @@ impl Pass<'_> {
     }
 
     // The hearer of a direction keeps the better of its offer and what it is told, which wins only if it goes on.
+    #[tactic(auto, using(crate::proofs::ConsiderLaws::stays_out))]
     fn hear_over(&self, best: &mut [u32], way: Way)
         requires { Telling way self.now.told.now × Hearer best.old way }
         ensures { best.new ≡ with_better best.old way.hearer (told_offer self.now.told.now way) }
@@ -77,6 +80,7 @@ impl Pass<'_> {
     }
 
     // Direction k.
+    #[tactic(auto, using(network::proofs::PrefixLaws::count, crate::proofs::HearLaws::places_long, crate::proofs::HearLaws::heard_more))]
     pub fn hear(&self, best: &mut [u32], k: usize)
         requires { Hearing (links_of self.now.words.now) self.now.told.now best.old k }
         ensures { best.new ≡ with_heard (links_of self.now.words.now) self.now.told.now (k + 1) best.old }

@@ -1,5 +1,5 @@
 -- What is given for an entry is its AS with its fresh line.
-use Rattle.std.proofs.Common.{ap, sym, ◌∙◌, rules, arith, ◌≡◌, take, get_or}
+use Rattle.std.proofs.Common.{sym, ◌∙◌, rules, ◌≡◌, take, get_or}
 use Rattle.std.proofs.Math.Seq.{length-take-le, get_or-take}
 use Rattle.offers.specs.Lines.{fresh_lines}
 use Rattle.offers.proofs.FreshLaws.{fresh_next}

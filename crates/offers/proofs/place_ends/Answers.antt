@@ -1,16 +1,8 @@
 use Rattle.std.proofs.Common.{sym, arith}
 use Rattle.network.proofs.PrefixLaws.{count}
-use Rattle.offers.proofs.EndLaws.{ends_none, ends_long, ends_more, ends_all}
+use Rattle.offers.proofs.EndLaws.{ends_more, ends_all}
 use Rattle.offers.proofs.WayLaws.{links_at}
 use Rattle.offers.proofs.place_ends.Goals as goal
-
-pub loop-i-init : goal.loop-i-init
-loop-i-init c = ends_none _ _
-
-pub place_link-requires : goal.place_link-requires
-place_link-requires c =
-    let few = count c.args.words.now in
-    (omega arith, omega arith)
 
 pub loop-i-preserved : goal.loop-i-preserved
 loop-i-preserved c =
