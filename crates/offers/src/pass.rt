@@ -1,5 +1,5 @@
-// The pass that finds every AS's best offer, one direction after the other. A line is stored only where an offer
-// wins, and offers are compared only where the neighbour's type goes on over the link: each is one branch, whose test has none inside.
+// The pass that finds every AS's best offer, one direction after the other. A line is stored only where an offer wins, and offers are
+// compared only where the neighbour's type goes on over the link: each is one branch, whose test has none inside.
 ghost use Rattle.std.specs.Prelude.{◌+◌, ◌*◌, ◌≤◌, ◌≡◌, true, cond, eqb, length};
 ghost use Rattle.rules.specs.Network.{links_of, ases_of};
 ghost use Rattle.offers.specs.Lines.{type_word};
