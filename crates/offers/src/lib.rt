@@ -41,7 +41,8 @@ pub struct Offered {
 }
 
 impl Offered {
-    // Smaller type wins, then smaller length, then smaller rank: one comparison without branches, in which length and rank count where the types are equal.
+    // Smaller type wins, then smaller length, then smaller rank.
+    // Kept: one comparison without branches, in which length and rank count where the types are equal, since the pass is as fast as this is.
     pub fn wins(self, other: Offered) -> bool
         ensures { result ≡ better (as_offer self) (as_offer other) }
     {
@@ -59,6 +60,7 @@ fn length_rank(length: u32, rank: u32) -> u64
 }
 
 // Words per table entry: number, type, length, next hop.
+// Kept: entries are read and written by index, since a table is words that callers lend.
 pub const WORDS_PER_ENTRY: usize = 4;
 
 // The AS of entry i.
