@@ -4,74 +4,43 @@ use Prim.Native.Nat.{ℕ, zero, suc, ◌+◌, ◌*◌, ◌≤◌, ◌<◌}
 use mathlib.Core.Path.{◌≡◌, refl, sym, ◌∙◌, ap, subst}
 use mathlib.Core.List.{List, [], ◌∷◌, ◌++◌}
 use native.Mathlib.Omega.{arith}
-use native.Mathlib.Decide.{dec_lt}
-use lib.ListN.{length, get_or, set, take, drop, length-append, length-take, length-drop}
-use lib.Seq.{length-take-le, take-length, take_at, get_or-take}
+use lib.ListN.{length, get_or, take, drop, length-append, length-drop}
+use lib.Seq.{length-take-le, take-length}
+use Rattle.std.specs.Prelude.{Option, Some, None, IsSome}
 use Rattle.rules.specs.declared.Link.{Link}
+use Rattle.rules.specs.Lists.{In}
+use Rattle.rules.specs.Ascending.{Ascending}
 use Rattle.rules.specs.Network.{links_of, link_in_words, ases_of}
-use Rattle.rules.proofs.NetworkLaws.{Ends, ases_Ascending, ases_In}
-use Rattle.std.specs.Prelude.{Option}
-use Rattle.std.specs.Prelude.{Some, None}
-use Rattle.network.specs.Promises.{Stands, Listed}
-use Rattle.network.proofs.InsertLaws.{ascending_at}
-use Rattle.network.proofs.ListedLaws.{listed_front}
+use Rattle.rules.proofs.NetworkLaws.{Ends, ases_Ascending, ases_Distinct, ases_In}
+use Rattle.network.specs.Promises.{Stands}
 use Rattle.network.proofs.PrefixLaws.{count}
 use Rattle.offers.specs.Ways.{ends_of, index_in, places_of, no_link}
-use Rattle.offers.specs.Steps.{Placed}
-use Rattle.offers.specs.Placing.{Among, Placing, put_ends, with_places}
-use Rattle.offers.proofs.PlaceLaws.{place-In, places_length}
+use Rattle.offers.specs.Placing.{put_ends, with_places}
+use Rattle.offers.proofs.PlaceLaws.{place-In, place_at, places_length}
 use Rattle.offers.proofs.WayLaws.{link_In}
 use Rattle.offers.proofs.FillLaws.{fill_two}
 
 -- What a search says ------------------------------------------------------------------------------------------------------
 
-module _ {l : List ℕ} {n x : ℕ} (a : Among l n x) where
-  long : length (take n l) ≡ n
-  long = length-take-le n l a.within
+pub searchable : (ls : List Link) {us : List ℕ} → us ≡ ases_of ls → Ascending (take (length us) us)
+searchable ls {us} listed = rw (take-length us, listed) (ases_Ascending ls)
 
-  -- x stands at its place
-  stands : (index_in (take n l) x < length (take n l)) × (get_or (take n l) (index_in (take n l) x) 0 ≡ x)
-  stands = place-In (take n l) x a.member
+-- what stands at a place stands nowhere else
+pub only_place : (ls : List Link) {us : List ℕ} → us ≡ ases_of ls → (i : ℕ) {x : ℕ} → i < length us → get_or us i 0 ≡ x → i ≡ index_in us x
+only_place ls {us} listed i h e = sym (place_at us (rw listed (ases_Distinct ls)) i h) ∙ ap (index_in us) e
 
-  pub somewhere : {r : Option ℕ} → Stands l n x r → r ≡ None → ⊥
-  somewhere s e =
-      let h : index_in (take n l) x < n = omega (arith, long, stands.0) in
-      subst (Stands l n x) e s (index_in (take n l) x) h (sym (get_or-take n l (index_in (take n l) x) 0 h) ∙ stands.1)
+-- an AS that is there is found
+pub found : (us : List ℕ) (x : ℕ) → In x us → (r : Option ℕ) → Stands us (length us) x r → IsSome r
+found us x m (Some i) s = refl
+found us x m None s = let p = place-In us x m in absurd (s (index_in us x) p.0 p.1)
 
-  -- and nowhere else
-  pub at_place : {r : Option ℕ} → Stands l n x r → {i : ℕ} → r ≡ Some i → (i < n) × (i ≡ index_in (take n l) x)
-  at_place s {i} e =
-      let (h, f) = subst (Stands l n x) e s in
-      (h, go (omega (arith, long)) (get_or-take n l i 0 h ∙ f) (dec_lt i (index_in (take n l) x)) (dec_lt (index_in (take n l) x) i))
-    where
-      go : i < length (take n l) → get_or (take n l) i 0 ≡ x → Dec (i < index_in (take n l) x) → Dec (index_in (take n l) x < i) → i ≡ index_in (take n l) x
-      go h f (yes b) d = absurd (omega (arith, ascending_at (take n l) a.ascending i (index_in (take n l) x) b stands.0, stands.1))
-      go h f (no b) (yes d) = absurd (omega (arith, ascending_at (take n l) a.ascending (index_in (take n l) x) i d h, stands.1))
-      go h f (no b) (no d) = omega arith
+-- and at its place
+pub found_place : (ls : List Link) {us : List ℕ} → us ≡ ases_of ls → (x : ℕ) {i : ℕ} {r : Option ℕ} → Stands us (length us) x r → r ≡ Some i → i ≡ index_in us x
+found_place ls {us} listed x {i} s e = let p = subst (Stands us (length us) x) e s in only_place ls listed i p.0 p.1
 
--- the ends of the links are among the first n words, which ascend
-module _ {ws l : List ℕ} {n : ℕ} {ps : List ℕ} (w : Placing ws l n ps) where
-  pub ases_within : n ≤ length l
-  ases_within = omega (arith, simp length-take at (ap length w.list), w.count)
-
-  pub Ends-Among : (i x : ℕ) → i < length (links_of ws) → Ends x (link_in_words ws i) → Among l n x
-  Ends-Among i x h e =
-      let m = link_In ws i (omega (arith, count ws)) in
-      record {
-        within = ases_within;
-        few = w.few;
-        ascending = rw w.list (ases_Ascending (links_of ws));
-        member = rw w.list (ases_In (links_of ws) x (link_in_words ws i) m e);
-      }
-
-  -- what two searches and two stores make
-  pub ends_put : (i a b : ℕ) (k : Link) → k ≡ link_in_words ws i → a ≡ index_in (take n l) k.a → b ≡ index_in (take n l) k.b
-      → set (set ps (2 * i) a) (2 * i + 1) b ≡ put_ends (ases_of (links_of ws)) ps i (link_in_words ws i)
-  ends_put i a b k is p q = rw (p, q, w.list, is)
-
-  -- the same for other words as many
-  pub Placing-kept : {qs : List ℕ} → length qs ≡ length ps → Placing ws l n qs
-  Placing-kept e = record { list = w.list; count = w.count; few = w.few; room = omega (arith, w.room) }
+-- the ends of the links are among the ASes
+pub ends_In : (ws : List ℕ) {us : List ℕ} → us ≡ ases_of (links_of ws) → (i : ℕ) {x : ℕ} → i < length (links_of ws) → Ends x (link_in_words ws i) → In x us
+ends_In ws listed i {x} h e = rw listed (ases_In (links_of ws) x (link_in_words ws i) (link_In ws i (omega (arith, count ws))) e)
 
 -- One link more -------------------------------------------------------------------------------------------------------------
 
@@ -111,20 +80,3 @@ module _ {ls : List Link} {i : ℕ} {old new : List ℕ} (e : EndsAt ls i old ne
 pub ends_none : (ls : List Link) (old : List ℕ) → EndsAt ls 0 old old
 unfolding places_of ends_of
 ends_none ls old = record { words = refl }
-
--- For callers -----------------------------------------------------------------------------------------------------------------
-
--- the ASes that the network lists
-pub Listed-Placing : {ws l u : List ℕ} {n : ℕ} {ps : List ℕ} → Listed (ases_of (links_of ws)) l u n → n < 4294967296 → 2 * length (links_of ws) ≤ length ps
-    → Placing ws u n ps
-Listed-Placing {ws} {l} {u} {n} e few room =
-    record {
-      list = listed_front e;
-      count = e.count;
-      few = few;
-      room = room;
-    }
-
--- the places stand in front
-pub with_Placed : (ls : List Link) (ps : List ℕ) → Placed ls (with_places ls ps)
-with_Placed ls ps = take_at (places_of (ases_of ls) ls) (drop (2 * length ls) ps) (2 * length ls) (places_length (ases_of ls) ls)

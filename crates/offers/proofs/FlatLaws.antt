@@ -82,10 +82,6 @@ pub byte_is : (b : Bool) → bool_byte b ≡ cond b 1 0
 byte_is true = refl
 byte_is false = refl
 
-pub byte_small : (b : Bool) → bool_byte b ≤ 1
-byte_small true = omega arith
-byte_small false = omega arith
-
 -- what goes on
 one_test : (t : ℕ) → (leb 1 t && leb t 1) ≡ eqb t 1
 one_test zero = refl

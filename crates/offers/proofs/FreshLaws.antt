@@ -8,7 +8,7 @@ use mathlib.Core.List.{List, [], ◌∷◌, ◌++◌}
 use native.Mathlib.Omega.{arith}
 use native.Mathlib.Decide.{ℕ_discrete}
 use lib.ListN.{length, get_or, take, drop, length-append, length-drop}
-use lib.Seq.{take-suc, drop_at}
+use lib.Seq.{take-suc, take_all}
 use Rattle.rules.specs.declared.TypeLength.{TypeLength}
 use Rattle.rules.specs.Pairs.{origin_of, unreachable_of}
 use Rattle.rules.specs.Stable.{Line, Routing, own, lost, table_of}
@@ -35,9 +35,6 @@ module _ {R : Routing} {us : List ℕ} {i : ℕ} {old new : List ℕ} (e : LaidT
   pub laid_long : 4 * i ≤ length old → length new ≡ length old
   laid_long h = omega (arith, simp (length-append, length-drop) at (ap length e.words), front)
 
-  pub laid_rest : drop (4 * i) new ≡ drop (4 * i) old
-  laid_rest = ap (drop (4 * i)) e.words ∙ drop_at (table_of R us) (drop (4 * i) old) (4 * i) front
-
   pub laid_number : (j : ℕ) → j < i → number_word new j ≡ get_or us j 0
   laid_number j h = rw e.words (table_number R (drop (4 * i) old) us j (omega (arith, e.count)))
 
@@ -58,6 +55,18 @@ module _ {R : Routing} {us : List ℕ} {i : ℕ} {old new : List ℕ} (e : LaidT
             ∙ rw (four, table_append R us (u ∷ []), table_one R u);
       }
 
+-- one AS more of a list, with what it gets
+pub laid_next : {R : Routing} (us : List ℕ) {i : ℕ} {old new : List ℕ} → LaidTo R (take i us) i old new → i < length us → 4 * i + 4 ≤ length old
+    → (u : ℕ) (p : TypeLength) → u ≡ get_or us i 0 → p ≡ (R u).pair → (R u).next ≡ u
+    → LaidTo R (take (i + 1) us) (i + 1) old (with_entry new i u (record { pair = p; next = u }))
+laid_next us {i} e h g u p is f n =
+    let one : suc i ≡ i + 1 = omega arith in
+    rw (← one, take-suc us i 0 h, ← is, f) (rw n at (laid_more e g u))
+
+pub laid_all : {R : Routing} (us : List ℕ) {i n : ℕ} {old new : List ℕ} → LaidTo R (take i us) i old new → i ≡ n → length us ≡ n
+    → new ≡ table_of R us ++ drop (4 * n) old
+laid_all us {n = n} e is long = rw (is, take_all n us (omega arith)) at e.words
+
 -- Before anything is told ----------------------------------------------------------------------------------------------------
 
 pub fresh_own : (d u : ℕ) → u ≡ d → (fresh_lines d u).pair ≡ origin_of
@@ -76,10 +85,3 @@ fresh_next d u = go (ℕ_discrete u d)
     go : Dec (u ≡ d) → (fresh_lines d u).next ≡ u
     go (yes e) = ap (λ (l : Line). l.next) (changed_same lost d (own d) u e) ∙ sym e
     go (no ne) = ap (λ (l : Line). l.next) (changed_other lost d (own d) u ne)
-
-pub fresh_more : (d : ℕ) (list : List ℕ) {i : ℕ} {old new : List ℕ} → LaidTo (fresh_lines d) (take i list) i old new → i < length list
-    → 4 * i + 4 ≤ length old → (u : ℕ) (p : TypeLength) → u ≡ get_or list i 0 → p ≡ (fresh_lines d u).pair
-    → LaidTo (fresh_lines d) (take (i + 1) list) (i + 1) old (with_entry new i u (record { pair = p; next = u }))
-fresh_more d list {i} e h g u p is f =
-    let one : suc i ≡ i + 1 = omega arith in
-    rw (← one, take-suc list i 0 h, ← is, f) (rw (fresh_next d u) at (laid_more e g u))

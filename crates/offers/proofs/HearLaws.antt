@@ -21,14 +21,14 @@ use Rattle.offers.specs.Lines.{number_word, entry_pair, entry_line, with_line, p
 use Rattle.offers.specs.Ways.{no_arc, arc_at, way_of_direction}
 use Rattle.offers.specs.Passes.{as_offer}
 use Rattle.offers.specs.Steps.{ranked_offer, OverWay, told_offer, Telling}
-use Rattle.offers.specs.Electing.{entry_offer, with_better, best_after, with_heard, Hearer, Hearing}
+use Rattle.offers.specs.Electing.{entry_offer, with_better, best_after, with_heard, Electing, Hearer, Hearing}
 use Rattle.offers.proofs.PlaceLaws.{Placed-long}
 use Rattle.offers.proofs.WayLaws.{WayArc, way_arc, way_over}
 use Rattle.offers.proofs.TableLaws.{table_line, table_put, printed_at}
 use Rattle.offers.proofs.ConsiderLaws.{considered}
 use Rattle.offers.proofs.ElectLaws.{take_in, best_own, best_other, best-line, best-Fair}
 
-module _ {ls : List Link} {ps t b : List ℕ} {k : ℕ} (w : Hearing ls ps t b k) where
+module _ {ls : List Link} {ps t b : List ℕ} {k : ℕ} (pass : Electing ls ps t (length (ases_of ls))) (w : Hearing ls t b k) where
   rest : List ℕ
   rest = drop (4 * length (ases_of ls)) b
 
@@ -41,7 +41,7 @@ module _ {ls : List Link} {ps t b : List ℕ} {k : ℕ} (w : Hearing ls ps t b k
   sofar u = best tells u (take k (arcs_of ls))
 
   pub places_long : 2 * length ls ≤ length ps
-  places_long = Placed-long ls ps w.pass.placed
+  places_long = Placed-long ls ps pass.placed
 
   best_long : 4 * length (ases_of ls) ≤ length b
   best_long =
@@ -57,7 +57,7 @@ module _ {ls : List Link} {ps t b : List ℕ} {k : ℕ} (w : Hearing ls ps t b k
   -- r: the direction as the code reads it
   module _ {r : Way} (is : r ≡ way_of_direction ls ps k) where
     on : WayArc (ases_of ls) r (arc_at ls k)
-    on = rw is (way_arc ls ps w.pass.placed k w.within)
+    on = rw is (way_arc ls ps pass.placed k w.within)
 
     -- the hearer's entry
     line_is : entry_line b r.hearer ≡ line_of (sofar (arc_at ls k).hearer)
@@ -84,8 +84,8 @@ module _ {ls : List Link} {ps t b : List ℕ} {k : ℕ} (w : Hearing ls ps t b k
 
     pub telling : Telling r t
     telling = record {
-      within = omega (arith, on.neighbour_in, w.pass.room);
-      fits = omega (arith, ap (λ (x : Way). x.cost) is, w.pass.wide.short r.neighbour on.neighbour_in);
+      within = omega (arith, on.neighbour_in, pass.room);
+      fits = omega (arith, ap (λ (x : Way). x.cost) is, pass.wide.short r.neighbour on.neighbour_in);
     }
 
     -- the neighbour's
@@ -94,11 +94,11 @@ module _ {ls : List Link} {ps t b : List ℕ} {k : ℕ} (w : Hearing ls ps t b k
     tells_is =
         ap (λ (l : Line). l.pair)
         (ap (printed (length (ases_of ls)) t) (sym on.neighbour)
-        ∙ printed_at (ases_of ls) t (ases_Distinct ls) w.pass.room w.pass.numbers r.neighbour on.neighbour_in)
+        ∙ printed_at (ases_of ls) t (ases_Distinct ls) pass.room pass.numbers r.neighbour on.neighbour_in)
 
     over : OverWay r (number_word t r.neighbour) (arc_at ls k)
     over =
-        rw is (way_over ls ps w.pass.placed k w.within (w.pass.numbers (way_of_direction ls ps k).neighbour (way_arc ls ps w.pass.placed k w.within).neighbour_in))
+        rw is (way_over ls ps pass.placed k w.within (pass.numbers (way_of_direction ls ps k).neighbour (way_arc ls ps pass.placed k w.within).neighbour_in))
 
     -- the better of the two
     abbrev chosen : Offer

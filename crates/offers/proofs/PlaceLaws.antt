@@ -46,9 +46,6 @@ place_at (u ∷ us) d zero h = here u u us refl
 place_at (u ∷ us) d (suc i) h =
     later (get_or us i 0) u us (λ e. without_at 0 u us d.0 i (omega arith) (sym e)) ∙ ap suc (place_at us d.1 i (omega arith))
 
-pub place_same : (us : List ℕ) → Distinct us → (i j : ℕ) → i < length us → j < length us → get_or us i 0 ≡ get_or us j 0 → i ≡ j
-place_same us d i j h g e = sym (place_at us d i h) ∙ ap (index_in us) e ∙ place_at us d j g
-
 -- the ends, in list order
 pub ends_length : (ls : List Link) → length (ends_of ls) ≡ 2 * length ls
 unfolding ends_of

@@ -5,15 +5,14 @@ use mathlib.Core.Path.{◌≡◌, refl, sym, ◌∙◌, ap}
 use mathlib.Core.Logic.{◌≢◌}
 use mathlib.Core.List.{List, [], ◌∷◌, ◌++◌}
 use native.Mathlib.Omega.{arith}
-use lib.ListN.{length, get_or, length-append}
+use lib.ListN.{length, get_or}
 use borrow.Author.Tests.{eq-eqb, ne_eqb}
-use Rattle.rules.specs.Lists.{In, Without, Distinct}
-use Rattle.rules.specs.Stable.{Line, Routing, lost, table_of}
+use Rattle.rules.specs.Lists.{Distinct}
+use Rattle.rules.specs.Stable.{Line, Routing, table_of}
 use Rattle.rules.specs.Judge.{entries_of, routing_of}
-use Rattle.rules.proofs.LineLaws.{table_length, table_same}
+use Rattle.rules.proofs.LineLaws.{table_same}
 use Rattle.offers.specs.Lines.{number_word, entry_line, with_line, printed}
-use Rattle.offers.specs.Ways.{index_in}
-use Rattle.offers.proofs.PlaceLaws.{without_at, place-In}
+use Rattle.offers.proofs.PlaceLaws.{without_at}
 
 -- One entry on -----------------------------------------------------------------------------------------------------------
 
@@ -88,25 +87,3 @@ printed_at (u ∷ us) (a ∷ b ∷ c ∷ e ∷ t) d room same (suc i) h =
     printed_later a b c e t (length us) (get_or us i 0) (λ f. without_at 0 u us d.0 i (omega arith) (sym (f ∙ own)))
     ∙ printed_at us t d.1 (omega arith) (λ j g. sym (number_next a b c e t j) ∙ same (suc j) (omega arith)) i (omega arith)
     ∙ sym (line_next a b c e t i)
-
--- a routing's table prints the routing
-pub printed_table : (R : Routing) (us rest : List ℕ) → Distinct us → (u : ℕ) → In u us → printed (length us) (table_of R us ++ rest) u ≡ R u
-printed_table R us rest d u m =
-    let (h, e) = place-In us u m in
-    let t = table_of R us ++ rest in
-    let room : 4 * length us ≤ length t = simp length-append (omega (arith, table_length R us)) in
-    rw e at (printed_at us t d room (table_number R rest us) (index_in us u) h ∙ table_line R rest us (index_in us u) h)
-
--- and says of no other AS that it is reachable
-pub printed_other : (us t : List ℕ) → 4 * length us ≤ length t → ((i : ℕ) → i < length us → number_word t i ≡ get_or us i 0)
-    → (v : ℕ) → Without v us → printed (length us) t v ≡ lost v
-unfolding entries_of routing_of
-printed_other [] t room same v w = refl
-printed_other (u ∷ us) [] room same v w = absurd (omega arith)
-printed_other (u ∷ us) (a ∷ []) room same v w = absurd (omega arith)
-printed_other (u ∷ us) (a ∷ b ∷ []) room same v w = absurd (omega arith)
-printed_other (u ∷ us) (a ∷ b ∷ c ∷ []) room same v w = absurd (omega arith)
-printed_other (u ∷ us) (a ∷ b ∷ c ∷ e ∷ t) room same v w =
-    let own : a ≡ u = same 0 (omega arith) in
-    printed_later a b c e t (length us) v (λ f. w.0 (f ∙ own))
-    ∙ printed_other us t (omega arith) (λ j g. sym (number_next a b c e t j) ∙ same (suc j) (omega arith)) v w.1

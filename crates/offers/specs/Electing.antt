@@ -1,14 +1,13 @@
 -- The pass, entry by entry and direction by direction.
 --
---   numbers_of n t     the ASes of the first n entries
 --   entry_offer t i    the offer that entry i stands for
 --   with_better t i o  the table with the better of entry i's offer and o at entry i
 --   best_after ls t n k each AS's line as the best offer over the first k directions
 --   with_heard ls t k b the table b with these lines; with_offers ls t n b  with the best offers over all directions
 --   Electing ls ps t n what the pass asks: places of the links' ends, and a table of their ASes whose lengths leave room for one link more
 --   Hearer b w         the hearer of w has an entry in b, whose offer is fair
---   Hearing ls ps t b k   what it asks at direction k: b has the best offers over those before it
-use Rattle.std.specs.Prelude.{ℕ, zero, suc, ◌+◌, ◌*◌, ◌≤◌, ◌<◌, ◌≡◌, List, [], ◌∷◌, ◌++◌, length, get_or, take, drop}
+--   Hearing ls t b k   what it asks at direction k: b has the best offers over those before it
+use Rattle.std.specs.Prelude.{ℕ, ◌+◌, ◌*◌, ◌≤◌, ◌<◌, ◌≡◌, List, ◌++◌, length, get_or, take, drop}
 use Rattle.rules.specs.declared.Link.{Link}
 use Rattle.rules.specs.Offers.{choose, best}
 use Rattle.rules.specs.Network.{ases_of, arcs_of}
@@ -18,10 +17,6 @@ use Rattle.offers.specs.declared.Way.{Way}
 use Rattle.offers.specs.Lines.{number_word, entry_pair, next_word, with_line, printed}
 use Rattle.offers.specs.Passes.{as_offer, Wide, offers_to}
 use Rattle.offers.specs.Steps.{ranked_offer, Fair, Placed}
-
-unfoldable pub numbers_of : ℕ → List ℕ → List ℕ
-numbers_of zero t = []
-numbers_of (suc n) t = numbers_of n t ++ (number_word t n ∷ [])
 
 abbrev pub entry_offer : List ℕ → ℕ → Offered
 entry_offer t i = ranked_offer (entry_pair t i) (next_word t i)
@@ -50,7 +45,6 @@ pub record Hearer (b : List ℕ) (w : Way) : Type 0 where
   pub within : 4 * w.hearer + 4 ≤ length b
   pub fair : Fair (entry_offer b w.hearer)
 
-pub record Hearing (ls : List Link) (ps t b : List ℕ) (k : ℕ) : Type 0 where
-  pub pass : Electing ls ps t (length (ases_of ls))
+pub record Hearing (ls : List Link) (t b : List ℕ) (k : ℕ) : Type 0 where
   pub within : k < 2 * length ls
   pub sofar : take (4 * length (ases_of ls)) b ≡ table_of (best_after ls t (length (ases_of ls)) k) (ases_of ls)

@@ -5,7 +5,8 @@
 --   with_line t i l    the table with the line l at entry i; with_entry t i u l   with the number u too
 --   printed n t        the routing that the first n entries print
 --   fresh_lines d      the lines before anything is told: the destination's own, every other AS unreachable
-use Rattle.std.specs.Prelude.{ℕ, ◌+◌, ◌*◌, List, get_or, set, take}
+--   Laying gives n us R   what is given for the first n places are the ASes us with their pairs in R, where each is its own next hop
+use Rattle.std.specs.Prelude.{ℕ, ◌+◌, ◌*◌, ◌<◌, ◌≡◌, List, length, get_or, set, take}
 use Rattle.rules.specs.declared.TypeLength.{TypeLength}
 use Rattle.rules.specs.Lists.{changed}
 use Rattle.rules.specs.Stable.{Line, Routing, own, lost}
@@ -40,3 +41,9 @@ printed n t = routing_of (entries_of (take (4 * n) t))
 
 abbrev pub fresh_lines : ℕ → Routing
 fresh_lines d = changed lost d (own d)
+
+pub record Laying (gives : ℕ → ℕ × TypeLength → Type 0) (n : ℕ) (us : List ℕ) (R : Routing) : Type 0 where
+  pub count : length us ≡ n
+  pub number : (i : ℕ) (e : ℕ × TypeLength) → i < n → gives i e → e.0 ≡ get_or us i 0
+  pub pair : (i : ℕ) (e : ℕ × TypeLength) → i < n → gives i e → e.1 ≡ (R e.0).pair
+  pub next : (i : ℕ) (e : ℕ × TypeLength) → i < n → gives i e → (R e.0).next ≡ e.0

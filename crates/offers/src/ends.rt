@@ -1,8 +1,9 @@
 // Where the ends of the links stand among the ascending ASes.
-ghost use Rattle.std.specs.Prelude.{◌≤◌, ◌<◌, ◌≡◌, true, length, take, get_or};
+ghost use Rattle.std.specs.Prelude.{◌+◌, ◌*◌, ◌≤◌, ◌<◌, ◌≡◌, length, get_or, IfSome};
+ghost use Rattle.rules.specs.Lists.{In};
 ghost use Rattle.rules.specs.Network.{links_of, link_in_words, ases_of};
 ghost use Rattle.offers.specs.Ways.{index_in};
-ghost use Rattle.offers.specs.Placing.{kind_of_direction, Among, Placing, put_ends};
+ghost use Rattle.offers.specs.Placing.{kind_of_direction, put_ends};
 
 use rules::Link;
 
@@ -10,11 +11,11 @@ use rules::Link;
 pub fn kind_over(link: Link, k: usize) -> u32
     ensures { result ≡ kind_of_direction link k }
 {
-    let back = k % 2;
-    if back == 0 {
-        return link.kind_from_b();
+    if k % 2 == 0 {
+        link.kind_from_b()
+    } else {
+        link.kind_from_a()
     }
-    link.kind_from_a()
 }
 
 // Word k of the places.
@@ -25,103 +26,67 @@ pub fn place_at(places: &[u32], k: usize) -> usize
     places[k] as usize
 }
 
-// Where the AS x stands, which is among the first n words, by halving.
-pub fn search_in(list: &[u32], n: usize, x: u32) -> u32
-    requires { Among list.now n x }
-    ensures { result ≡ index_in (take n list.now) x }
+// Puts the place of each AS, one higher, into a slot that is free, 0, from its own slot on. Nothing is said of the hints: one may be
+// missing or wrong.
+pub fn put_hints(ases: &[u32], hints: &mut [u32; 2048])
+    requires { length ases.now < 4294967296 }
 {
-    let Some(i) = network::place_of(list, n, x) else {
-        return 0;
-    };
-    i as u32
-}
-
-// The first free slot from one on, or the last.
-fn free_slot(hints: &[u32; 2048], home: usize) -> usize
-    requires { home < 2048 }
-    ensures { result < 2048 }
-{
-    let mut s = home;
-    while s < 2047 {
-        if hints[s] == 0 {
-            return s;
+    for (i, x) in ases.iter().enumerate() {
+        let home = network::slot_of(*x);
+        if let Some(s) = hints[home..].iter().position(|mark| *mark == 0) {
+            hints[home + s] = (i + 1) as u32;
         }
-        s += 1;
-    }
-    s
-}
-
-// Puts the place of each of the first n words, one higher, into a slot that is free, 0, from its own slot on. Nothing is said of the
-// hints: one may be missing or wrong.
-pub fn put_hints(list: &[u32], n: usize, hints: &mut [u32; 2048])
-    requires { (n ≤ length list.now) × (n < 4294967296) }
-{
-    let mut i = 0;
-    while i < n {
-        let s = free_slot(hints, network::slot_of(list[i]));
-        hints[s] = (i + 1) as u32;
-        i += 1;
     }
 }
 
-// Whether x stands at a place among the first n words.
-fn stands_at(list: &[u32], n: usize, place: u32, x: u32) -> bool
-    requires { n ≤ length list.now }
-    ensures { result ≡ true → (place < n) × (get_or list.now place 0 ≡ x) }
-{
-    let at = place as usize;
-    if at < n {
-        return list[at] == x;
-    }
-    false
+// The links of a network and its ASes, ascending, with hints where each AS stands.
+#[derive(Clone, Copy, Debug)]
+pub struct Roster<'a> {
+    pub words: &'a [u32],
+    pub ases: &'a [u32],
+    pub hints: &'a [u32; 2048],
+    ghost listed: { ases.now ≡ ases_of (links_of words.now) },
+    ghost few: { length ases.now < 4294967296 },
 }
 
-// Where the hints from a slot on say that x stands, or 0.
-fn hinted(list: &[u32], n: usize, hints: &[u32; 2048], x: u32, home: usize) -> u32
-    requires { n ≤ length list.now }
-{
-    let mut s = home;
-    while s < 2048 {
-        let mark = hints[s];
-        if mark == 0 {
-            return 0;
+impl Roster<'_> {
+    // Where the hints say that x stands, if they do and are right.
+    fn hinted(&self, x: u32) -> Option<usize>
+        ensures { IfSome result (λ i. (i < length self.now.ases.now) × (get_or self.now.ases.now i 0 ≡ x)) }
+    {
+        for mark in &self.hints[network::slot_of(x)..] {
+            if *mark == 0 {
+                return None;
+            }
+            let place = (*mark - 1) as usize;
+            if self.ases.get(place) == Some(&x) {
+                return Some(place);
+            }
         }
-        let place = mark - 1;
-        if stands_at(list, n, place, x) {
-            return place;
+        None
+    }
+
+    // Where one of the ASes stands.
+    #[tactic(auto, using(crate::proofs::EndLaws::searchable, crate::proofs::EndLaws::only_place, crate::proofs::EndLaws::found, crate::proofs::EndLaws::found_place))]
+    fn place_of(&self, x: u32) -> u32
+        requires { In x self.now.ases.now }
+        ensures { result ≡ index_in self.now.ases.now x }
+    {
+        if let Some(i) = self.hinted(x) {
+            return i as u32;
         }
-        s += 1;
+        let place = network::place_of(self.ases, self.ases.len(), x);
+        place.unwrap() as u32
     }
-    0
-}
 
-// Where the AS x stands, which is among the first n words: where the hints say, if it is right.
-pub fn place_in(list: &[u32], n: usize, hints: &[u32; 2048], x: u32) -> u32
-    requires { Among list.now n x }
-    ensures { result ≡ index_in (take n list.now) x }
-{
-    let hint = hinted(list, n, hints, x, network::slot_of(x));
-    if stands_at(list, n, hint, x) {
-        return hint;
+    // The two ends of link i.
+    #[tactic(auto, using(network::proofs::PrefixLaws::count, crate::proofs::EndLaws::ends_In))]
+    pub fn place_link(&self, i: usize, places: &mut [u32])
+        requires { (i < length (links_of self.now.words.now)) × (2 * i + 2 ≤ length places.old) }
+        ensures { places.new ≡ put_ends self.now.ases.now places.old i (link_in_words self.now.words.now i) }
+    {
+        let link = network::link_at(self.words, i);
+        places[2 * i] = self.place_of(link.a);
+        places[2 * i + 1] = self.place_of(link.b);
     }
-    search_in(list, n, x)
-}
-
-// The two ends of link i.
-pub fn place_link(
-    words: &[u32],
-    list: &[u32],
-    n: usize,
-    hints: &[u32; 2048],
-    places: &mut [u32],
-    i: usize,
-)
-    requires { Placing words.now list.now n places.old × (i < length (links_of words.now)) }
-    ensures { places.new ≡ put_ends (ases_of (links_of words.now)) places.old i (link_in_words words.now i) }
-{
-    let link = network::link_at(words, i);
-    let a = place_in(list, n, hints, link.a);
-    let b = place_in(list, n, hints, link.b);
-    places[2 * i] = a;
-    places[2 * i + 1] = b;
 }

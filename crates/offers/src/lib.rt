@@ -1,5 +1,5 @@
 // The one shared election: what is offered over a direction, the best offer so far, and the pass that finds every AS's best offer.
-#![tactic(auto, unfolding(rules::specs::Offers::better, rules::specs::Network::links_of, rules::specs::Stable::table_of, rules::specs::Stable::lost, crate::specs::Electing::numbers_of, crate::specs::Ways::index_in))]
+#![tactic(auto, unfolding(rules::specs::Offers::better, rules::specs::Network::links_of, rules::specs::Stable::table_of, rules::specs::Stable::lost, crate::specs::Ways::index_in))]
 
 ghost use Rattle.std.specs.Prelude.{◌+◌, ◌*◌, ◌/◌, ◌≤◌, ◌<◌, ◌≡◌, ◌++◌, length, take, drop};
 ghost use Rattle.rules.specs.Offers.{better};
@@ -13,7 +13,9 @@ ghost use Rattle.offers.specs.Passes.{as_offer};
 ghost use Rattle.offers.specs.Electing.{Electing, with_offers};
 ghost use Rattle.offers.specs.Steps.{ranked_offer, Fair, Considered};
 
+use ends::Roster;
 use network::WORDS_PER_LINK;
+use pass::Pass;
 use rules::TypeLength;
 
 mod ends;
@@ -22,7 +24,7 @@ mod pass;
 pub mod scratch;
 
 // A direction with its ends as places among the ascending ASes, its kind seen from the hearer, and its cost.
-#[derive(Clone, Copy)]
+#[derive(Clone, Copy, Debug, PartialEq, Eq)]
 pub struct Way {
     pub hearer: usize,
     pub neighbour: usize,
@@ -31,7 +33,7 @@ pub struct Way {
 }
 
 // An offer: a pair, its rank among equal ones, and the next hop that it stands for.
-#[derive(Clone, Copy)]
+#[derive(Clone, Copy, Debug, PartialEq, Eq)]
 pub struct Offered {
     pub pair: TypeLength,
     pub rank: u32,
@@ -39,13 +41,15 @@ pub struct Offered {
 }
 
 impl Offered {
-    // Smaller type wins, then smaller length, then smaller rank: one comparison without branches, in which length and rank count where the types are equal.
+    // Smaller type wins, then smaller length, then smaller rank.
+    // Kept: one comparison without branches, in which length and rank count where the types are equal. With `same`, then `beats`, a pass
+    // over ever other networks takes a seventh longer.
     pub fn wins(self, other: Offered) -> bool
         ensures { result ≡ better (as_offer self) (as_offer other) }
     {
         let mine = length_rank(self.pair.length, self.rank);
-        let tie = (mine < length_rank(other.pair.length, other.rank)) as u64;
-        (self.pair.typ as u64) < (other.pair.typ as u64) + tie
+        let tie = u64::from(mine < length_rank(other.pair.length, other.rank));
+        u64::from(self.pair.typ) < u64::from(other.pair.typ) + tie
     }
 }
 
@@ -53,10 +57,11 @@ impl Offered {
 fn length_rank(length: u32, rank: u32) -> u64
     ensures { (result ≡ 4294967296 * length + rank) × (rank < 4294967296) }
 {
-    4294967296 * (length as u64) + (rank as u64)
+    4294967296 * u64::from(length) + u64::from(rank)
 }
 
 // Words per table entry: number, type, length, next hop.
+// Kept: entries are read and written by index, since a table is words that callers lend.
 pub const WORDS_PER_ENTRY: usize = 4;
 
 // The AS of entry i.
@@ -103,26 +108,29 @@ pub fn lay_fresh_lines(table: &mut [u32], list: &[u32], n: usize, destination: u
     requires { (4 * n ≤ length table.old) × (n ≤ length list.now) }
     ensures { table.new ≡ table_of (fresh_lines destination) (take n list.now) ++ drop (4 * n) table.old }
 {
-    let mut i = 0;
-    while i < n {
-        let number = list[i];
-        fresh::put_entry(table, i, number, fresh::first_pair(number, destination));
-        i += 1;
-    }
+    fresh::lay_entries(
+        table,
+        n,
+        |i| (list[i], fresh::first_pair(list[i], destination)),
+    );
 }
 
 // Where the ends of the links stand among their ASes, which are the first n words of a list: two words per link, a's place and b's.
+#[tactic(auto, using(network::proofs::PrefixLaws::count, crate::proofs::EndLaws::ends_none))]
 pub fn place_ends(words: &[u32], list: &[u32], n: usize, places: &mut [u32])
     requires { Placing words.now list.now n places.old }
     ensures { places.new ≡ with_places (links_of words.now) places.old }
 {
+    let ases = &list[..n];
     let mut hints = [0u32; 2048];
-    ends::put_hints(list, n, &mut hints);
-    let m = words.len() / WORDS_PER_LINK;
-    let mut i = 0;
-    while i < m {
-        ends::place_link(words, list, n, &hints, places, i);
-        i += 1;
+    ends::put_hints(ases, &mut hints);
+    let roster = Roster {
+        words,
+        ases,
+        hints: &hints,
+    };
+    for i in 0..words.len() / WORDS_PER_LINK {
+        roster.place_link(i, places);
     }
 }
 
@@ -135,6 +143,7 @@ pub fn partner(k: usize) -> usize
 }
 
 // Direction k: 2i from a to b of link i, 2i + 1 from b to a.
+#[tactic(auto, using(crate::proofs::WayLaws::way_words))]
 pub fn way_at(words: &[u32], places: &[u32], k: usize) -> Way
     requires { HasLink words.now (k / 2) × (2 * (k / 2) + 2 ≤ length places.now) }
     ensures { result ≡ way_of_direction (links_of words.now) places.now k }
@@ -157,6 +166,7 @@ pub fn offer_of(pair: TypeLength, next: u32) -> Offered
 }
 
 // The better of the best offer so far and what a neighbour, numbered `from` and with the pair that it told, offers over a direction.
+#[tactic(auto, using(crate::proofs::ConsiderLaws::considered, crate::proofs::ConsiderLaws::choose_new, crate::proofs::ConsiderLaws::choose_old))]
 pub fn consider(best: Offered, way: Way, from: u32, told: TypeLength) -> Offered
     requires { (told.length + way.cost < 4294967296) × Fair best }
     ensures { Considered best way from told result }
@@ -166,15 +176,19 @@ pub fn consider(best: Offered, way: Way, from: u32, told: TypeLength) -> Offered
 }
 
 // Every AS's line as the best offer that the first n lines of a table give it, the others as told. One pass over the links.
+#[tactic(auto, using(network::proofs::PrefixLaws::count, crate::proofs::PassLaws::hearing, crate::proofs::PassLaws::heard_next))]
 pub fn elect_links(words: &[u32], places: &[u32], told: &[u32], best: &mut [u32], n: usize)
     requires { Electing (links_of words.now) places.now told.now n × (4 * n ≤ length best.old) }
     ensures { best.new ≡ with_offers (links_of words.now) told.now n best.old }
 {
-    pass::put_nones(told, best, n);
-    let m = words.len() / WORDS_PER_LINK;
-    let mut i = 0;
-    while i < m {
-        pass::hear_link(words, places, told, best, i);
-        i += 1;
+    fresh::lay_entries(best, n, |i| (number_at(told, i), TypeLength::UNREACHABLE));
+    let pass = Pass {
+        words,
+        places,
+        told,
+    };
+    for i in 0..words.len() / WORDS_PER_LINK {
+        pass.hear(best, 2 * i);
+        pass.hear(best, 2 * i + 1);
     }
 }

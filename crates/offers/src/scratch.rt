@@ -14,13 +14,11 @@ pub const ASES: usize = 512;
 pub fn at(s: &[u32], i: usize) -> u32
     ensures { result ≡ get_or s.now i 0 }
 {
-    if i < s.len() {
-        return s[i];
-    }
-    0
+    s.get(i).copied().unwrap_or(0)
 }
 
 // Word i gets a value, if there is such a word.
+// Kept: the index, since `get_mut` says nothing of what the words are once its loan is over.
 pub fn put(s: &mut [u32], i: usize, value: u32)
     ensures { s.new ≡ set s.old i value }
 {
@@ -33,11 +31,8 @@ pub fn put(s: &mut [u32], i: usize, value: u32)
 pub fn indexed(words: &[u32]) -> usize
     ensures { (result ≡ links_indexed words.now) × (result ≤ 1536) × (3 * result ≤ length words.now) }
 {
-    let m = words.len() / WORDS_PER_LINK;
-    if LINKS < m {
-        return LINKS;
-    }
-    m
+    let links = words.len() / WORDS_PER_LINK;
+    links.min(LINKS)
 }
 
 // An index: links or directions, noted as one more than their number, so that 0 is none. The first words, by number: what was noted before,
@@ -66,8 +61,5 @@ pub fn noted_before(index: &[u32], noted: u32) -> u32
     ensures { (result < noted) × (result ≡ earlier_noted index.now noted) }
 {
     let before = at(index, (noted - 1) as usize);
-    if before < noted {
-        return before;
-    }
-    0
+    if before < noted { before } else { 0 }
 }

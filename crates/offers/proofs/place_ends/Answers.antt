@@ -1,25 +1,17 @@
 use Rattle.std.proofs.Common.{sym, arith}
 use Rattle.network.proofs.PrefixLaws.{count}
-use Rattle.offers.proofs.EndLaws.{Placing-kept, ends_none, ends_long, ends_more, ends_all}
+use Rattle.offers.proofs.EndLaws.{ends_more, ends_all}
 use Rattle.offers.proofs.WayLaws.{links_at}
 use Rattle.offers.proofs.place_ends.Goals as goal
-
-pub loop-i-init : goal.loop-i-init
-loop-i-init c = (omega arith, ends_none _ _)
-
-pub place_link-requires : goal.place_link-requires
-place_link-requires c =
-    let few = count c.args.words.now in
-    (Placing-kept c.requires (ends_long c.loop-i.invariant.1 c.requires.room (omega arith)), omega arith)
 
 pub loop-i-preserved : goal.loop-i-preserved
 loop-i-preserved c =
     let few = count c.args.words.now in
     let is = sym (links_at c.args.words.now c.loop-i.i (omega arith)) in
-    let more = ends_more c.loop-i.invariant.1 c.requires.room (omega arith) _ is in
-    (omega arith, rw c.place_link.ensures more)
+    let more = ends_more c.loop-i.invariant c.requires.room (omega arith) _ is in
+    rw (c.place_link.ensures, c.requires.list) more
 
 pub returns : goal.returns
 returns c =
     let few = count c.args.words.now in
-    ends_all c.loop-i.invariant.1 c.requires.room (omega arith)
+    ends_all c.loop-i.invariant c.requires.room (omega arith)

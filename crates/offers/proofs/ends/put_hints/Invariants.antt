@@ -1,9 +1,0 @@
--- Nothing is said of the hints: the slots and the places fit.
-use Rattle.std.proofs.Common.{◌-◌, ◌≤◌}
-use Rattle.offers.proofs.ends.put_hints.Given as goal
-
-abbrev pub invariant-loop-i : goal.invariant-loop-i
-invariant-loop-i l = l.i ≤ l.n
-
-abbrev pub decreases-loop-i : goal.decreases-loop-i
-decreases-loop-i l = l.n - l.i
