@@ -1,6 +1,6 @@
 -- Laws of a field as a number and as a relation, one byte further or by the field's length.
 --
---   all_stops, all_goes, all_at   a test of all bytes, one byte further; at one of them
+--   list_all-all_of, all_at   a test of all bytes as the library writes it; at one of them
 --   form-..            when a field is a number in form
 --   value_next, value_grows   a value, one digit further; it never falls
 --   numeral-..         what a field in form gives
@@ -15,6 +15,7 @@ use lib.Dec.{leb, eqb}
 use lib.ListN.{length, get_or, drop}
 use lib.Seq.{drop-cons}
 use borrow.Author.Tests.{leb-true, eq-eqb, ne_eqb, le-leb, lt-leb}
+use Rattle.std.specs.List.{list_all}
 use Rattle.rules.specs.Lists.{all_of}
 use Rattle.rules.proofs.Tests.{and_left, and_right}
 use Rattle.rules.proofs.ListLaws.{all_of_each, at_in}
@@ -22,11 +23,10 @@ use Rattle.linktext.specs.declared.Numeral.TheVariants.{Value, NoForm, OverLarge
 use Rattle.linktext.specs.Lines.{digit0, minus, is_decimal_digit, value_from, is_in_form, numeral_of, relation_of, related, unrelated}
 use Rattle.linktext.specs.Fields.{capped}
 
-pub all_stops : (f : ℕ → Bool) (l : List ℕ) (i : ℕ) → i < length l → f (get_or l i 0) ≡ false → all_of f (drop i l) ≡ false
-all_stops f l i h e = simp (drop-cons l i 0 h, e)
-
-pub all_goes : (f : ℕ → Bool) (l : List ℕ) (i : ℕ) → i < length l → f (get_or l i 0) ≡ true → all_of f (drop i l) ≡ all_of f (drop (i + 1) l)
-all_goes f l i h e = simp (add-one, drop-cons l i 0 h, e)
+-- the library's test of all members
+pub list_all-all_of : (f : ℕ → Bool) (l : List ℕ) → list_all f l ≡ all_of f l
+list_all-all_of f [] = refl
+list_all-all_of f (x ∷ l) = ap (λ (t : Bool). f x && t) (list_all-all_of f l)
 
 pub all_at : (f : ℕ → Bool) (l : List ℕ) (i : ℕ) → i < length l → all_of f l ≡ true → f (get_or l i 0) ≡ true
 all_at f l i h e = all_of_each f l e (get_or l i 0) (at_in 0 l i h)

@@ -1,20 +1,24 @@
 -- Laws of the first place of a byte: a field ends at the first bar, a line at the first LF, or where the bytes end.
 --
 --   place_within       the place lies within
---   place_here, place_later   one byte further
+--   place_of-position  the library's search finds the place
 --   Cut l from end     the field of l that begins at `from` ends at `end`
 --   cut                where `find` stops, a field ends
 --   first_line_lem     where `find` stops, a line ends
 use mathlib.Core.Path.{◌≡◌, refl, ap, ◌∙◌}
-use mathlib.Core.Bool.{Bool, true, false, cond}
+use mathlib.Core.Bool.{Bool, true, false, cond, not}
 use mathlib.Core.List.{List, [], ◌∷◌}
 use Prim.Native.Nat.{ℕ, suc, ◌+◌, ◌-◌, ◌≤◌, ◌<◌}
 use native.Mathlib.Numerals.{add-one}
 use native.Mathlib.Omega.{arith}
-use lib.Dec.{eqb}
+use lib.Dec.{eqb, ltb}
 use lib.ListN.{length, get_or, take, drop, length-drop}
 use lib.Seq.{drop-cons, drop-drop, length-take-le}
-use borrow.Author.Tests.{eq-eqb, ne_eqb}
+use borrow.Author.Tests.{ltb-false}
+use Rattle.std.specs.Prelude.{Option, None, Some, unwrap_or, position, ◌==◌}
+use Rattle.std.specs.List.{position_or_len}
+use Rattle.std.proofs.lemmas.List.Recursion.{is_position_or_len}
+use Rattle.rules.proofs.Tests.{by_cond}
 use Rattle.linktext.specs.Lines.{lf, bar, before_bar, ends, rest, after_bar}
 use Rattle.linktext.specs.Texts.{onto, lines_of}
 use Rattle.linktext.specs.Fields.{place_of}
@@ -34,13 +38,16 @@ place_le c (x ∷ l) =
 pub place_within : (c : ℕ) (l : List ℕ) (from end : ℕ) → from ≤ length l → end ≡ from + place_of c (drop from l) → end ≤ length l
 place_within c l from end h e = omega (arith, place_le c (drop from l), length-drop from l)
 
-pub place_here : (c : ℕ) (l : List ℕ) (i : ℕ) → i < length l → get_or l i 0 ≡ c → place_of c (drop i l) ≡ 0
+searched : (c : ℕ) (l : List ℕ) → place_of c l ≡ position_or_len (λ x. x == c) l
 unfolding place_of
-place_here c l i h e = simp (drop-cons l i 0 h, eq-eqb (get_or l i 0) c e)
+searched c l = is_position_or_len (place_of c) (λ x. x == c) refl (λ x xs. ap (λ (n : ℕ). cond (x == c) 0 n) (omega arith)) l
 
-pub place_later : (c : ℕ) (l : List ℕ) (i : ℕ) → i < length l → (get_or l i 0 ≡ c → ⊥) → place_of c (drop i l) ≡ suc (place_of c (drop (i + 1) l))
-unfolding place_of
-place_later c l i h e = simp (add-one, drop-cons l i 0 h, ne_eqb (get_or l i 0) c e)
+or_length : (p n : ℕ) → p ≤ n → unwrap_or (cond (ltb p n) (Some p) None) n ≡ p
+or_length p n h = by_cond (λ (o : Option ℕ). unwrap_or o n ≡ p) (ltb p n) _ _ (λ e. refl) (λ e. omega (arith, ltb-false p n e))
+
+-- the library's search finds the place
+pub place_of-position : (c : ℕ) (l : List ℕ) → unwrap_or (position (λ x. x == c) l) (length l) ≡ place_of c l
+place_of-position c l = rw (← searched c l) (or_length (place_of c l) (length l) (place_le c l))
 
 before_bar_lem : (l : List ℕ) → take (place_of bar l) l ≡ before_bar l
 unfolding place_of before_bar
@@ -120,3 +127,5 @@ first_line_lem l at end h e =
     let d : end - at ≡ p = omega arith in
     let s : at + suc p ≡ end + 1 = omega arith in
     rw (d, ← s, ← drop-drop (suc p) at l) (first (drop at l) (omega arith))
+
+pub ruleset searches = (place_of-position)

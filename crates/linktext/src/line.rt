@@ -1,6 +1,7 @@
 // One line of a link text, cut at its bars: a skip, a link, or the reason it does not read.
 ghost use Rattle.std.specs.Prelude.{◌≡◌, true, ◌+◌, ◌≤◌, length, drop};
 ghost use Rattle.rules.specs.Lists.{all_of};
+ghost use Rattle.std.specs.List.{list_all};
 ghost use Rattle.linktext.specs.Lines.{before_bar, is_decimal_digit, value_from, is_in_form, numeral_of, relation_of, read_of_line, read_from_first, read_from_second, read_from_third};
 ghost use Rattle.linktext.specs.Fields.{place_of, capped, relation_read, fault_of_number};
 
@@ -30,18 +31,13 @@ pub enum Relation {
 }
 
 // Where a byte first stands at or after `from`, or the end.
+#[tactic(auto, using(std::proofs::lemmas::Grind::common_steps, crate::proofs::PlaceLaws::searches))]
 pub fn find(s: &[u8], from: usize, byte: u8) -> usize
     requires { from ≤ length s.now }
     ensures { result ≡ from + place_of byte (drop from s.now) }
 {
-    let mut i = from;
-    while i < s.len() {
-        if s[i] == byte {
-            return i;
-        }
-        i += 1;
-    }
-    i
+    let rest = &s[from..];
+    from + rest.iter().position(|&c| c == byte).unwrap_or(rest.len())
 }
 
 // `0` to `9`.
@@ -52,16 +48,9 @@ pub(crate) fn is_digit(c: u8) -> bool
 }
 
 fn all_digits(field: &[u8]) -> bool
-    ensures { result ≡ all_of is_decimal_digit field.now }
+    ensures { result ≡ list_all is_decimal_digit field.now }
 {
-    let mut i = 0;
-    while i < field.len() {
-        if !is_digit(field[i]) {
-            return false;
-        }
-        i += 1;
-    }
-    true
+    field.iter().all(|&c| is_digit(c))
 }
 
 // Digits, and no leading zero except the number 0 itself.
@@ -81,25 +70,17 @@ fn in_form(field: &[u8]) -> bool
     all_digits(field)
 }
 
-pub(crate) fn wide(x: u8) -> u64
-    ensures { result ≡ x }
-{
-    x as u64
-}
-
 // The value of a field of digits, which may be many: it stops where the value passes the largest number.
 fn value(field: &[u8]) -> u64
     requires { all_of is_decimal_digit field.now ≡ true }
     ensures { result ≡ capped 4294967295 (value_from 0 field.now) }
 {
     let mut v: u64 = 0;
-    let mut i = 0;
-    while i < field.len() {
-        v = 10 * v + wide(field[i] - ZERO);
+    for c in field {
+        v = 10 * v + u64::from(*c - ZERO);
         if MOST < v {
             return MOST + 1;
         }
-        i += 1;
     }
     v
 }

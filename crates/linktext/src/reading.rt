@@ -33,14 +33,12 @@ fn line_at(text: &[u8], at: usize) -> LineAt
     requires { at ≤ length text.now }
     ensures { Gives text.now at result.end result.read }
 {
-    let tried = quick_link(text, at);
-    let link = tried.link;
-    if 1 < link.relation {
-        return any_line(text, at);
-    }
-    LineAt {
-        end: tried.end,
-        read: LineRead::Reads(link),
+    match quick_link(text, at) {
+        Some(usual) => LineAt {
+            end: usual.end,
+            read: LineRead::Reads(usual.link),
+        },
+        None => any_line(text, at),
     }
 }
 
