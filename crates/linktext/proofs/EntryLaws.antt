@@ -15,7 +15,7 @@ use Rattle.rules.specs.Network.{links_of}
 use Rattle.rules.proofs.Tests.{by_cond, clash}
 use Rattle.rules.proofs.StoreLaws.{sets_front}
 use Rattle.linktext.specs.Texts.{text_of, fault_of_relations, fault_of_text}
-use Rattle.linktext.specs.Entries.{fitted, filled, write_reply, final_bytes}
+use Rattle.linktext.specs.Entries.{fitted, room_fault, filled, write_reply, final_bytes}
 
 -- ---- room
 
@@ -24,6 +24,10 @@ fitted_short room need value h = simp (lt-ltb room need h)
 
 pub fitted_room : (room need value : ℕ) → need ≤ room → fitted room need value ≡ Ok value
 fitted_room room need value h = simp (le-ltb room need h)
+
+pub room_fits : (room need : ℕ) → Ok tt ≡ room_fault room need → need ≤ room
+room_fits room need =
+    by_cond (λ (v : Verdict). Ok tt ≡ v → need ≤ room) (ltb room need) _ _ (λ b e. clash (cc)) (λ b e. ltb-false room need b)
 
 pub filled_short : (out old : List ℕ) → length old < length out → filled out old ≡ old
 filled_short out old h = simp (lt-ltb (length old) (length out) h)

@@ -20,12 +20,12 @@ use borrow.Author.Tests.{eq-eqb, ne_eqb}
 use Rattle.rules.specs.declared.Link.{Link}
 use Rattle.rules.specs.Lists.{Without}
 use Rattle.linktext.specs.declared.LineRead.TheVariants.{Reads}
-use Rattle.linktext.specs.Lines.{lf, minus, digit0, is_decimal_digit}
+use Rattle.linktext.specs.Lines.{lf, minus, digit0, digit9}
 use Rattle.linktext.specs.Texts.{decimal, relation_text}
 use Rattle.linktext.specs.Fields.{place_of}
 use Rattle.linktext.specs.Plain.{line_body}
 use Rattle.linktext.specs.Usual.{Stands, Found, Begun, FourDigits, field_text, end_text, Written, Gives}
-use Rattle.linktext.proofs.DigitLaws.{more, digits_spell, Spells-digits, decimal_short, digit_low, digit_high}
+use Rattle.linktext.proofs.DigitLaws.{more, digits_spell, Spells-digits, decimal_short}
 use Rattle.linktext.proofs.FourLaws.{digit_Bytes}
 use Rattle.linktext.proofs.LineLaws.{body_Without, line_reads}
 use Rattle.linktext.proofs.TextLaws.{line_text_lem, Line-parts, relation_one, relation_other}
@@ -84,12 +84,9 @@ begun_more {t} {at} {k} {v} d s h l e =
       stands = rw (decimal_more v d s.some (under s h) l, ← next) (join s.stands byte);
     }
 
-pub Begun-next : {t : List ℕ} {at k v : ℕ} (d : ℕ) → Begun t at k v → k < 10 → is_decimal_digit (get_or t (at + k) 0) ≡ true → d ≡ get_or t (at + k) 0 - digit0
+pub Begun-next : {t : List ℕ} {at k v : ℕ} (d : ℕ) → Begun t at k v → k < 10 → digit0 ≤ get_or t (at + k) 0 → get_or t (at + k) 0 ≤ digit9 → d ≡ get_or t (at + k) 0 - digit0
     → Begun t at (k + 1) (10 * v + d)
-Begun-next {t} {at} {k} d s h e p =
-    let low = digit_low (get_or t (at + k) 0) e in
-    let high = digit_high (get_or t (at + k) 0) e in
-    begun_more d s h (omega arith) (omega arith)
+Begun-next d s h low high p = begun_more d s h (omega arith) (omega arith)
 
 pub Begun-Found : {t : List ℕ} {at k v : ℕ} → Begun t at k v → v ≤ 4294967295 → Found t at 10 4294967295 decimal v (at + k)
 Begun-Found s h = record { within = omega (arith, s.most); small = h; stands = s.stands }
@@ -124,12 +121,9 @@ pub spell_none : (t : List ℕ) (at : ℕ) → at < length t → get_or t at 0 �
 spell_none t at h e =
     record { within = omega arith; small = omega arith; stands = rw (decimal_short 0 (omega arith)) (here t at digit0 h e) }
 
-pub begins : (t : List ℕ) (at d : ℕ) → at + 10 ≤ length t → is_decimal_digit (get_or t at 0) ≡ true → (get_or t at 0 ≡ digit0 → ⊥) → d ≡ get_or t at 0 - digit0
+pub begins : (t : List ℕ) (at d : ℕ) → at + 10 ≤ length t → digit0 ≤ get_or t at 0 → get_or t at 0 ≤ digit9 → (get_or t at 0 ≡ digit0 → ⊥) → d ≡ get_or t at 0 - digit0
     → Begun t at 1 d
-begins t at d h e z p =
-    let low = digit_low (get_or t at 0) e in
-    let high = digit_high (get_or t at 0) e in
-    Begun-one t at d h (omega arith) (omega arith) (omega arith)
+begins t at d h low high z p = Begun-one t at d h (omega arith) (omega arith) (omega arith)
 
 -- ---- relations
 

@@ -18,7 +18,7 @@ use Rattle.rules.specs.declared.Refusal.{Refusal}
 use Rattle.rules.specs.Network.{flat}
 use Rattle.rules.proofs.Tests.{clash}
 use Rattle.rules.proofs.NetworkLaws.{flat-length}
-use Rattle.linktext.specs.Texts.{TextRead, links, refused}
+use Rattle.linktext.specs.Texts.{TextRead}
 use Rattle.linktext.specs.Entries.{filled}
 use Rattle.network.specs.Promises.{with_link}
 use Rattle.linktext.specs.Scratch.{ReadInto}
@@ -59,13 +59,13 @@ is_filled out old h = simp (le-ltb (length old) (length out) h)
 
 pub record Got (x : TextRead) (n : ℕ) (ws : List ℕ) : Type 0 where
   pub list : List Link
-  pub whole : x ≡ links list
+  pub whole : x ≡ Ok list
   pub count : length list ≡ n
   pub room : 3 * n ≤ length ws
   pub words : take (3 * n) ws ≡ flat list
 
 pub got : (x : TextRead) (old ws : List ℕ) (r : Result ℕ Refusal) (n : ℕ) → ReadInto x old ws r → r ≡ Ok n → Got x n ws
-got (links ls) old ws r n (p, q) e =
+got (Ok ls) old ws r n (p, q) e =
     let c : length ls ≡ n = cc in
     let len = flat-length ls in
     record {
@@ -75,8 +75,8 @@ got (links ls) old ws r n (p, q) e =
       room = omega (arith, ap length q, length-append (flat ls) (drop (3 * length ls) old));
       words = rw q (take_at (flat ls) (drop (3 * length ls) old) (3 * n) (omega arith));
     }
-got (refused why) old ws r n p e = clash (cc)
+got (Err why) old ws r n p e = clash (cc)
 
-pub lost : (x : TextRead) (old ws : List ℕ) (r : Result ℕ Refusal) (why : Refusal) → ReadInto x old ws r → r ≡ Err why → x ≡ refused why
-lost (links ls) old ws r why (p, q) e = cc
-lost (refused why') old ws r why p e = cc
+pub lost : (x : TextRead) (old ws : List ℕ) (r : Result ℕ Refusal) (why : Refusal) → ReadInto x old ws r → r ≡ Err why → x ≡ Err why
+lost (Ok ls) old ws r why (p, q) e = cc
+lost (Err why') old ws r why p e = cc

@@ -5,7 +5,7 @@ ghost use Rattle.std.specs.Prelude.{◌≡◌, true, ◌+◌, ◌≤◌, ◌<◌
 ghost use Rattle.linktext.specs.Texts.{decimal, relation_text};
 ghost use Rattle.linktext.specs.Usual.{Found, Begun, Four, FourDigits, Digits, spelled, field_text, end_text, Written};
 
-use crate::line::{BAR, MINUS, ONE, ZERO, is_digit};
+use crate::line::{BAR, MINUS, ONE, ZERO};
 use rules::Link;
 
 pub const LF: u8 = b'\n';
@@ -14,14 +14,14 @@ pub const LF: u8 = b'\n';
 const LONGEST: usize = 25;
 
 // A value, and the place after it.
-#[derive(Clone, Copy)]
+#[derive(Clone, Copy, Debug, PartialEq, Eq)]
 struct Step {
     value: u32,
     next: usize,
 }
 
 // A link, and the place of its line's LF.
-#[derive(Clone, Copy)]
+#[derive(Clone, Copy, Debug, PartialEq, Eq)]
 pub struct UsualLine {
     pub link: Link,
     pub end: usize,
@@ -45,7 +45,7 @@ fn digits_from(text: &[u8], at: usize, from: usize, begun: u64) -> Option<Step>
     let mut value = begun;
     for k in from..10 {
         let c = text[at + k];
-        if !is_digit(c) {
+        if !c.is_ascii_digit() {
             return Step::new(value, at + k);
         }
         value = 10 * value + u64::from(c - ZERO);
@@ -111,12 +111,15 @@ fn number_from(text: &[u8], at: usize) -> Option<Step>
 {
     let lead = text[at];
     if lead == ZERO {
-        return Step::new(0, at + 1);
+        return Some(Step {
+            value: 0,
+            next: at + 1,
+        });
     }
     if let Some(begun) = four_digits(text, at) {
         return rest_from(text, at, begun);
     }
-    if !is_digit(lead) {
+    if !lead.is_ascii_digit() {
         return None;
     }
     digits_from(text, at, 1, u64::from(lead - ZERO))
@@ -143,8 +146,14 @@ fn relation_from(text: &[u8], at: usize) -> Option<Step>
     ensures { IfSome result (λ s. Found text.now at 2 1 relation_text s.value s.next) }
 {
     match text[at] {
-        ZERO => Step::new(0, at + 1),
-        MINUS if text[at + 1] == ONE => Step::new(1, at + 2),
+        ZERO => Some(Step {
+            value: 0,
+            next: at + 1,
+        }),
+        MINUS if text[at + 1] == ONE => Some(Step {
+            value: 1,
+            next: at + 2,
+        }),
         _ => None,
     }
 }
