@@ -191,17 +191,6 @@ decimal-Spells n h = digits_spell 9 n (omega arith)
 pub decimal_short : (n : ℕ) → n < 10 → decimal n ≡ (digit0 + n) ∷ []
 decimal_short n h = digits_short 9 n h
 
-pub decimal_long : (n : ℕ) → 10 ≤ n → n < 4294967296 → decimal n ≡ decimal (n / 10) ++ ((digit0 + n % 10) ∷ [])
-decimal_long n h b =
-    digits_long 9 n h
-    ∙ ap (λ (f : List ℕ). f ++ ((digit0 + n % 10) ∷ [])) (sym (Spells-digits 9 (digits_spell 8 (n / 10) (omega arith)) (omega arith)))
-
-pub long_count : (n : ℕ) → 10 ≤ n → n < 4294967296 → length (decimal n) ≡ length (decimal (n / 10)) + 1
-long_count n h b = ap length (decimal_long n h b) ∙ length-append (decimal (n / 10)) ((digit0 + n % 10) ∷ [])
-
-pub decimal_some : (n : ℕ) → n < 4294967296 → 1 ≤ length (decimal n)
-decimal_some n b = let r = Spells-Formed (decimal-Spells n b) in rw r.whole (omega arith)
-
 -- as many digits as the powers of ten say
 count_by_powers : (k r n : ℕ) → r < k → 10 ^ r ≤ n → n < 10 * 10 ^ r → length (digits k n) ≡ r + 1
 count_by_powers zero r n h p q = absurd (omega arith)

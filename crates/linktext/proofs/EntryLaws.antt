@@ -19,18 +19,12 @@ use Rattle.linktext.specs.Entries.{fitted, room_fault, filled, write_reply, fina
 
 -- ---- room
 
-pub fitted_short : (room need value : ℕ) → room < need → fitted room need value ≡ Err OutputShort
-fitted_short room need value h = simp (lt-ltb room need h)
-
 pub fitted_room : (room need value : ℕ) → need ≤ room → fitted room need value ≡ Ok value
 fitted_room room need value h = simp (le-ltb room need h)
 
 pub room_fits : (room need : ℕ) → Ok tt ≡ room_fault room need → need ≤ room
 room_fits room need =
     by_cond (λ (v : Verdict). Ok tt ≡ v → need ≤ room) (ltb room need) _ _ (λ b e. clash (cc)) (λ b e. ltb-false room need b)
-
-pub filled_short : (out old : List ℕ) → length old < length out → filled out old ≡ old
-filled_short out old h = simp (lt-ltb (length old) (length out) h)
 
 pub filled_room : (out old : List ℕ) → length out ≤ length old → filled out old ≡ sets old 0 out
 filled_room out old h = simp (le-ltb (length old) (length out) h) (sym (sets_front out old h))
@@ -54,21 +48,3 @@ passes_count limits ws e = (passed limits ws e).count
 
 pub passes_relations : (limits : Limits) (ws : List ℕ) → fault_of_text limits ws ≡ Ok tt → fault_of_relations 0 (links_of ws) ≡ Ok tt
 passes_relations limits ws e = (passed limits ws e).relations
-
-pub refused_reply : (limits : Limits) (ws : List ℕ) (room : ℕ) (why : Refusal) → fault_of_text limits ws ≡ Err why
-    → write_reply limits ws room ≡ Err why
-unfolding write_reply
-refused_reply limits ws room why e = simp e
-
-pub refused_after : (limits : Limits) (ws bs : List ℕ) (why : Refusal) → fault_of_text limits ws ≡ Err why → final_bytes limits ws bs ≡ bs
-unfolding final_bytes
-refused_after limits ws bs why e = simp e
-
-pub passes_reply : (limits : Limits) (ws : List ℕ) (room : ℕ) → fault_of_text limits ws ≡ Ok tt
-    → write_reply limits ws room ≡ fitted room (length (text_of (links_of ws))) (length (text_of (links_of ws)))
-unfolding write_reply
-passes_reply limits ws room e = simp e
-
-pub passes_after : (limits : Limits) (ws bs : List ℕ) → fault_of_text limits ws ≡ Ok tt → final_bytes limits ws bs ≡ filled (text_of (links_of ws)) bs
-unfolding final_bytes
-passes_after limits ws bs e = simp e

@@ -1,8 +1,6 @@
 -- Laws of a field as a number, one byte further.
 --
 --   all_at             a test of all bytes, at one of them
---   digit_least        a digit is at least `0`
---   form_digits        a field in form has digits alone
 --   value_next, value_grows   a value, one digit further; it never falls
 --   too_large, value_whole   a value that passes 32 bits stays there; one that does not is whole at the end
 use mathlib.Core.Path.{◌≡◌, refl, sym, ap, ◌∙◌}
@@ -25,16 +23,6 @@ pub all_at : (f : ℕ → Bool) (l : List ℕ) (i : ℕ) → i < length l → li
 all_at f [] i h e = absurd (omega arith)
 all_at f (x ∷ l) zero h e = and_left (f x) (list_all f l) e
 all_at f (x ∷ l) (suc i) h e = all_at f l i (omega arith) (and_right (f x) (list_all f l) e)
-
-pub digit_least : (l : List ℕ) (i : ℕ) → i < length l → list_all is_decimal_digit l ≡ true → 48 ≤ get_or l i 0
-unfolding is_decimal_digit
-digit_least l i h e = let c = get_or l i 0 in leb-true 48 c (and_left (leb 48 c) (leb c 57) (all_at is_decimal_digit l i h e))
-
-pub form_digits : (l : List ℕ) → is_in_form l ≡ true → list_all is_decimal_digit l ≡ true
-unfolding is_in_form
-form_digits [] e = cc
-form_digits (x ∷ []) e = and-true (is_decimal_digit x) ∙ e
-form_digits (x ∷ y ∷ l) e = and_right (not (eqb x digit0)) (list_all is_decimal_digit (x ∷ y ∷ l)) e
 
 pub value_next : (l : List ℕ) (v i d w : ℕ) → i < length l → d ≡ get_or l i 0 - digit0 → value_from v (drop i l) ≡ w
     → value_from (10 * v + d) (drop (i + 1) l) ≡ w

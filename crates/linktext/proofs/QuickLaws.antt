@@ -2,12 +2,10 @@
 --
 --   here, join         one byte stands; two parts that follow each other stand
 --   under              a value that can take one digit more
---   Begun-one, begun_more, Begun-Found   a number's first digit, one more, the end; Begun-next   one more, as it is tested
+--   Begun-one, begun_more, Begun-next   a number's first digit, one more; one more, as it is tested
 --   Begun-four, Begun-eight   its first four at once, and four more
 --   spell_none, begins the number 0; any other number's first digit, as it is tested
---   relation_none, relation_some   the relations `0` and `-1`
---   and_byte           one byte more: a bar or an LF
---   all_parts, Written-Gives  a link from its three parts; its line gives it
+--   Written-Gives      a link's line gives the link
 use mathlib.Core.Path.{◌≡◌, refl, sym, ap, ◌∙◌}
 use mathlib.Core.Bool.{true}
 use mathlib.Core.List.{List, [], ◌∷◌, ◌++◌, append_assoc}
@@ -88,9 +86,6 @@ pub Begun-next : {t : List ℕ} {at k v : ℕ} (d : ℕ) → Begun t at k v → 
     → Begun t at (k + 1) (10 * v + d)
 Begun-next d s h low high p = begun_more d s h (omega arith) (omega arith)
 
-pub Begun-Found : {t : List ℕ} {at k v : ℕ} → Begun t at k v → v ≤ 4294967295 → Found t at 10 4294967295 decimal v (at + k)
-Begun-Found s h = record { within = omega (arith, s.most); small = h; stands = s.stands }
-
 -- four digits at once: the first four, and four more
 pub Begun-four : {t : List ℕ} {at v : ℕ} → at + 10 ≤ length t → FourDigits t at v → (get_or t at 0 ≡ digit0 → ⊥) → Begun t at 4 v
 Begun-four {t} {at} {v} h f z =
@@ -125,35 +120,7 @@ pub begins : (t : List ℕ) (at d : ℕ) → at + 10 ≤ length t → digit0 ≤
     → Begun t at 1 d
 begins t at d h low high z p = Begun-one t at d h (omega arith) (omega arith) (omega arith)
 
--- ---- relations
-
-pub relation_none : (t : List ℕ) (at : ℕ) → at < length t → get_or t at 0 ≡ digit0 → Found t at 2 1 relation_text 0 (at + 1)
-relation_none t at h e =
-    record { within = omega arith; small = omega arith; stands = rw (relation_other 0 (λ z. omega arith)) (here t at digit0 h e) }
-
-pub relation_some : (t : List ℕ) (at : ℕ) → at + 2 ≤ length t → get_or t at 0 ≡ minus → get_or t (at + 1) 0 ≡ 49 → Found t at 2 1 relation_text 1 (at + 2)
-relation_some t at h e f =
-    let two : at + 1 + 1 ≡ at + 2 = omega arith in
-    record {
-      within = omega arith;
-      small = omega arith;
-      stands = rw (relation_one 1 refl, ← two) (join (here t at minus (omega arith) e) (here t (at + 1) 49 (omega arith) f));
-    }
-
--- ---- fields and lines
-
--- what was found, and one byte more
-pub and_byte : {t : List ℕ} {at room most v end : ℕ} {written : ℕ → List ℕ} (s : ℕ) → Found t at room most written v end → end < length t → get_or t end 0 ≡ s
-    → Found t at (room + 1) most (λ (n : ℕ). written n ++ (s ∷ [])) v (end + 1)
-and_byte {t} {end = end} s f h e = record { within = omega (arith, f.within); small = f.small; stands = join f.stands (here t end s h e) }
-
-pub all_parts : {t : List ℕ} {at second third end : ℕ} (l : Link) → Found t at 11 4294967295 field_text l.a second
-    → Found t second 11 4294967295 field_text l.b third → Found t third 3 1 end_text l.relation (end + 1) → Written t at l end
-all_parts l f g e =
-    record {
-      plain = record { first = omega (arith, f.small); second = omega (arith, g.small); third = e.small };
-      stands = rw Line-parts (join f.stands (join g.stands e.stands));
-    }
+-- ---- lines
 
 place_of_lem : (s : ℕ) (f l : List ℕ) → Without s f → place_of s (f ++ (s ∷ l)) ≡ length f
 unfolding place_of

@@ -1,7 +1,7 @@
 -- The round trips: reading what was written gives the same links, writing what was read gives the text without comments.
 --
 --   read_write         plain links, within the limits, come back from their text
---   base_bound, read_write_base   .. and at the limits of document 01 the number of links is limit enough
+--   base_bound, read_write_base   .. and at the base limits the number of links is limit enough
 --   write_read         the links of a text are written as that text without comments
 --   read_plain, read_count   the links of a text are plain, and within the limit
 use Prim.Native.Nat.{ℕ, suc, ◌+◌, ◌≤◌}

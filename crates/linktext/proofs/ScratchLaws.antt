@@ -1,8 +1,6 @@
 -- Laws of links as words, three per link.
 --
 --   more_words         the words with one more link
---   copy_more          one word more copied
---   not_filled, is_filled   lent words after an output that does not fit, and that does
 --   Got x n ws         reading gave x: n links, whose words stand first in ws; got, lost   from the scratch and the reply
 use mathlib.Core.Path.{◌≡◌, refl, sym, ap, ◌∙◌}
 use mathlib.Core.List.{List, [], ◌∷◌, ◌++◌}
@@ -43,19 +41,6 @@ more_words ls l old ws n c h s e =
     ap (λ (k : ℕ). drop (k + 3) ws) (sym len) ∙ ap (drop (length (flat ls) + 3)) e ∙ drop-append-add (flat ls) (drop i old) 3 ∙ drop-drop 3 i old
     ∙ ap (λ (k : ℕ). drop k old) all in
     stored ∙ sets-eq vs ws i (omega arith) ∙ rw (front, back, flat_more)
-
-pub copy_more : (from to : List ℕ) (i : ℕ) → i < length from → i < length to
-    → set (take i from ++ drop i to) i (get_or from i 0) ≡ take (i + 1) from ++ drop (i + 1) to
-copy_more from to i h k =
-    let len = length-take-le i from (omega arith) in
-    rw (add-one, drop-cons to i 0, take-suc from i 0)
-    (set_at (take i from) (get_or to i 0) (drop (suc i) to) (get_or from i 0) i len ∙ sym (append_snoc (take i from) (get_or from i 0) (drop (suc i) to)))
-
-pub not_filled : (out old : List ℕ) → length old < length out → old ≡ filled out old
-not_filled out old h = simp (lt-ltb (length old) (length out) h)
-
-pub is_filled : (out old : List ℕ) → length out ≤ length old → out ++ drop (length out) old ≡ filled out old
-is_filled out old h = simp (le-ltb (length old) (length out) h)
 
 pub record Got (x : TextRead) (n : ℕ) (ws : List ℕ) : Type 0 where
   pub list : List Link

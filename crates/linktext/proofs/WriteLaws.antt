@@ -16,10 +16,6 @@ use Rattle.network.proofs.PrefixLaws.{count, links_next, links_end}
 
 -- ---- the first link without a relation
 
-pub fault_here : (ws : List ℕ) (i : ℕ) → i < length ws / 3 → 1 < (link_in_words ws i).relation → fault_of_relations i (links_from ws i) ≡ Err (NoRelation i)
-unfolding fault_of_relations
-fault_here ws i h b = ap (fault_of_relations i) (links_next ws i (omega arith)) ∙ simp (lt-ltb 1 (link_in_words ws i).relation b)
-
 pub fault_later : (ws : List ℕ) (i : ℕ) → i < length ws / 3 → (link_in_words ws i).relation ≤ 1
     → fault_of_relations i (links_from ws i) ≡ fault_of_relations (i + 1) (links_from ws (i + 1))
 unfolding fault_of_relations
@@ -43,7 +39,7 @@ pub length_next : (ws : List ℕ) (i : ℕ) → i < length ws / 3
     → length (text_of (links_from ws i)) ≡ length (line_text (link_in_words ws i)) + length (text_of (links_from ws (i + 1)))
 length_next ws i h = ap length (text_next ws i h) ∙ length-append (line_text (link_in_words ws i)) (text_of (links_from ws (i + 1)))
 
--- ---- refusals 1 and 3, and then the first link without a relation
+-- ---- the number of words, and then the first link without a relation
 
 pub fault_ragged : (limits : Limits) (ws : List ℕ) → (length ws % 3 ≡ 0 → ⊥) → fault_of_text limits ws ≡ Err OverLimit
 unfolding fault_of_text

@@ -1,6 +1,6 @@
 // The usual line, `digits|digits|-1` or `digits|digits|0` with its LF, read in one pass. Of any other line nothing is said here: `None`.
 //
-// Kept: `text, at` stand side by side and not in a cursor struct, since each step asks for another number of bytes behind `at`: there is no fact that the struct could hold.
+// Kept: (d) `text, at` stand side by side and not in a cursor struct: each step asks for another number of bytes behind `at`, so the struct would hold no fact.
 ghost use Rattle.std.specs.Prelude.{◌≡◌, true, ◌+◌, ◌≤◌, ◌<◌, length, IfSome};
 ghost use Rattle.linktext.specs.Texts.{decimal, relation_text};
 ghost use Rattle.linktext.specs.Usual.{Found, Begun, Four, FourDigits, Digits, spelled, field_text, end_text, Written};

@@ -1,4 +1,6 @@
 // Writing a link text: every refusal is looked at first, then the text's length, then it is written line by line.
+//
+// Kept: (a) the writing functions take `bytes, at` and answer the next place, as the public `put_number` does; no cursor struct.
 ghost use Rattle.std.specs.Prelude.{◌≡◌, ◌∷◌, [], ◌++◌, ◌+◌, ◌*◌, ◌<◌, ◌≤◌, length};
 ghost use Rattle.std.proofs.lemmas.List.Edits.{sets};
 ghost use Rattle.rules.specs.Network.{links_of};
@@ -13,7 +15,7 @@ use crate::quick::LF;
 use network::WORDS_PER_LINK;
 use rules::{Limits, Link, Refusal};
 
-// Refusal 3 at the first link whose relation is not 0 or 1.
+// Refused at the first link whose relation is not 0 or 1.
 fn relation_fault(words: &[u32]) -> Result<(), Refusal>
     ensures { result ≡ fault_of_relations 0 (links_of words.now) }
 {
@@ -25,7 +27,7 @@ fn relation_fault(words: &[u32]) -> Result<(), Refusal>
     Ok(())
 }
 
-// Refusals 1 and 3.
+// Over the limit if the words are no whole links or too many links; then a link's relation.
 fn text_fault(words: &[u32], limits: Limits) -> Result<(), Refusal>
     ensures { result ≡ fault_of_text limits words.now }
 {
