@@ -1,21 +1,19 @@
 -- The entry's reply and what it leaves, by its three cases: a refusal of the words, too little room, and the text.
-use Prim.Native.Nat.{ℕ, ◌%◌, ◌≤◌, ◌<◌}
+use Prim.Native.Nat.{ℕ, ◌%◌, ◌≤◌}
 use mathlib.Core.Path.{◌≡◌, sym}
 use mathlib.Core.List.{List}
 use lib.Dec.{ltb, eqb}
 use lib.ListN.{length}
 use lib.Seq.{sets}
-use borrow.Author.Tests.{lt-ltb, le-ltb, ltb-false}
-use Rattle.std.specs.Prelude.{Err, Ok}
+use borrow.Author.Tests.{le-ltb, ltb-false}
+use Rattle.std.specs.Prelude.{Ok}
 use Rattle.rules.specs.Replies.{Verdict}
 use Rattle.rules.specs.declared.Limits.{Limits}
-use Rattle.rules.specs.declared.Refusal.{Refusal}
-use Rattle.rules.specs.declared.Refusal.TheVariants.{OutputShort}
 use Rattle.rules.specs.Network.{links_of}
 use Rattle.rules.proofs.Tests.{by_cond, clash}
 use Rattle.rules.proofs.StoreLaws.{sets_front}
-use Rattle.linktext.specs.Texts.{text_of, fault_of_relations, fault_of_text}
-use Rattle.linktext.specs.Entries.{fitted, room_fault, filled, write_reply, final_bytes}
+use Rattle.linktext.specs.Texts.{fault_of_relations, fault_of_text}
+use Rattle.linktext.specs.Entries.{fitted, room_fault, filled}
 
 -- ---- room
 

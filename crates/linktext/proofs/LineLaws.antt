@@ -20,7 +20,6 @@ use Rattle.linktext.specs.declared.Reason.{Reason}
 use Rattle.linktext.specs.declared.LineRead.{LineRead}
 use Rattle.linktext.specs.declared.LineRead.TheVariants.{Reads}
 use Rattle.linktext.specs.declared.NumeralFault.{NumeralFault}
-use Rattle.linktext.specs.declared.NumeralFault.TheVariants.{NoForm, OverLarge}
 use Rattle.linktext.specs.Lines.{hash, minus, bar, digit0, digit9, is_decimal_digit, numeral_of, before_bar, after_bar, relation_of, read_end, read_from_third, third_field, read_from_second, second_field, read_from_first, first_field, read_of_fields, read_of_line}
 use Rattle.linktext.specs.Texts.{decimal, relation_text}
 use Rattle.linktext.specs.Plain.{Plain, line_body}

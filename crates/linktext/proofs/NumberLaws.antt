@@ -4,19 +4,18 @@
 --   value_next, value_grows   a value, one digit further; it never falls
 --   too_large, value_whole   a value that passes 32 bits stays there; one that does not is whole at the end
 use mathlib.Core.Path.{◌≡◌, refl, sym, ap, ◌∙◌}
-use mathlib.Core.Bool.{Bool, true, not, ◌&&◌, and-true}
+use mathlib.Core.Bool.{Bool, true}
 use mathlib.Core.List.{List, [], ◌∷◌}
 use Prim.Native.Nat.{ℕ, zero, suc, ◌+◌, ◌-◌, ◌*◌, ◌≤◌, ◌<◌}
 use native.Mathlib.Numerals.{add-one}
 use native.Mathlib.Omega.{arith}
-use lib.Dec.{leb, eqb}
 use lib.ListN.{length, get_or, drop, drop_of_length-le}
 use lib.Seq.{drop-cons}
-use borrow.Author.Tests.{leb-true, le-leb, lt-leb}
+use borrow.Author.Tests.{le-leb, lt-leb}
 use Rattle.std.specs.List.{list_all}
 use Rattle.std.specs.Prelude.{None, Some}
 use Rattle.rules.proofs.Tests.{and_left, and_right}
-use Rattle.linktext.specs.Lines.{digit0, is_decimal_digit, value_from, is_in_form}
+use Rattle.linktext.specs.Lines.{digit0, value_from}
 use Rattle.linktext.specs.Fields.{within_32_bits}
 
 pub all_at : (f : ℕ → Bool) (l : List ℕ) (i : ℕ) → i < length l → list_all f l ≡ true → f (get_or l i 0) ≡ true

@@ -7,7 +7,6 @@
 --   spell_none, begins the number 0; any other number's first digit, as it is tested
 --   Written-Gives      a link's line gives the link
 use mathlib.Core.Path.{◌≡◌, refl, sym, ap, ◌∙◌}
-use mathlib.Core.Bool.{true}
 use mathlib.Core.List.{List, [], ◌∷◌, ◌++◌, append_assoc}
 use Prim.Native.Nat.{ℕ, zero, suc, ◌+◌, ◌-◌, ◌*◌, ◌/◌, ◌%◌, ◌^◌, ◌≤◌, ◌<◌}
 use native.Mathlib.Numerals.{add-one}
@@ -18,15 +17,15 @@ use borrow.Author.Tests.{eq-eqb, ne_eqb}
 use Rattle.rules.specs.declared.Link.{Link}
 use Rattle.rules.specs.Lists.{Without}
 use Rattle.linktext.specs.declared.LineRead.TheVariants.{Reads}
-use Rattle.linktext.specs.Lines.{lf, minus, digit0, digit9}
-use Rattle.linktext.specs.Texts.{decimal, relation_text}
+use Rattle.linktext.specs.Lines.{lf, digit0, digit9}
+use Rattle.linktext.specs.Texts.{decimal}
 use Rattle.linktext.specs.Fields.{place_of}
 use Rattle.linktext.specs.Plain.{line_body}
-use Rattle.linktext.specs.Usual.{Stands, Found, Begun, FourDigits, field_text, end_text, Written, Gives}
+use Rattle.linktext.specs.Usual.{Stands, Found, Begun, FourDigits, Written, Gives}
 use Rattle.linktext.proofs.DigitLaws.{more, digits_spell, Spells-digits, decimal_short}
 use Rattle.linktext.proofs.FourLaws.{digit_Bytes}
 use Rattle.linktext.proofs.LineLaws.{body_Without, line_reads}
-use Rattle.linktext.proofs.TextLaws.{line_text_lem, Line-parts, relation_one, relation_other}
+use Rattle.linktext.proofs.TextLaws.{line_text_lem}
 
 -- ---- bytes that stand
 

@@ -4,12 +4,10 @@
 --   Got x n ws         reading gave x: n links, whose words stand first in ws; got, lost   from the scratch and the reply
 use mathlib.Core.Path.{◌≡◌, refl, sym, ap, ◌∙◌}
 use mathlib.Core.List.{List, [], ◌∷◌, ◌++◌}
-use Prim.Native.Nat.{ℕ, suc, ◌+◌, ◌*◌, ◌≤◌, ◌<◌}
-use native.Mathlib.Numerals.{add-one}
+use Prim.Native.Nat.{ℕ, suc, ◌+◌, ◌*◌, ◌≤◌}
 use native.Mathlib.Omega.{arith}
-use lib.ListN.{length, get_or, take, drop, set, length-append}
-use lib.Seq.{sets, sets-eq, set_at, take_at, take-suc, drop-cons, drop-append-add, drop-drop, append_snoc, length-take-le}
-use borrow.Author.Tests.{lt-ltb, le-ltb}
+use lib.ListN.{length, take, drop, length-append}
+use lib.Seq.{sets, sets-eq, take_at, drop-append-add, drop-drop}
 use Rattle.std.specs.Prelude.{Err, Ok, Result}
 use Rattle.rules.specs.declared.Link.{Link}
 use Rattle.rules.specs.declared.Refusal.{Refusal}
@@ -17,7 +15,6 @@ use Rattle.rules.specs.Network.{flat}
 use Rattle.rules.proofs.Tests.{clash}
 use Rattle.rules.proofs.NetworkLaws.{flat-length}
 use Rattle.linktext.specs.Texts.{TextRead}
-use Rattle.linktext.specs.Entries.{filled}
 use Rattle.network.specs.Promises.{with_link}
 use Rattle.linktext.specs.Scratch.{ReadInto}
 

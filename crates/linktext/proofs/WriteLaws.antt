@@ -8,7 +8,7 @@ use lib.ListN.{length, length-append}
 use borrow.Author.Tests.{lt-ltb, le-ltb, eq-eqb, ne_eqb}
 use Rattle.std.specs.Prelude.{Err, Ok}
 use Rattle.rules.specs.declared.Limits.{Limits}
-use Rattle.rules.specs.declared.Refusal.TheVariants.{OverLimit, NoRelation}
+use Rattle.rules.specs.declared.Refusal.TheVariants.{OverLimit}
 use Rattle.rules.specs.Network.{links_of, link_in_words}
 use Rattle.linktext.specs.Texts.{line_text, text_of, fault_of_relations, fault_of_text}
 use Rattle.network.specs.Prefix.{links_from}
