@@ -1,27 +1,18 @@
 -- Laws of a field as a number, one byte further.
 --
---   all_at             a test of all bytes, at one of them
 --   value_next, value_grows   a value, one digit further; it never falls
 --   too_large, value_whole   a value that passes 32 bits stays there; one that does not is whole at the end
 use mathlib.Core.Path.{◌≡◌, refl, sym, ap, ◌∙◌}
-use mathlib.Core.Bool.{Bool, true}
 use mathlib.Core.List.{List, [], ◌∷◌}
-use Prim.Native.Nat.{ℕ, zero, suc, ◌+◌, ◌-◌, ◌*◌, ◌≤◌, ◌<◌}
+use Prim.Native.Nat.{ℕ, ◌+◌, ◌-◌, ◌*◌, ◌≤◌, ◌<◌}
 use native.Mathlib.Numerals.{add-one}
 use native.Mathlib.Omega.{arith}
 use lib.ListN.{length, get_or, drop, drop_of_length-le}
 use lib.Seq.{drop-cons}
 use borrow.Author.Tests.{le-leb, lt-leb}
-use Rattle.std.specs.List.{list_all}
 use Rattle.std.specs.Prelude.{None, Some}
-use Rattle.rules.proofs.Tests.{and_left, and_right}
 use Rattle.linktext.specs.Lines.{digit0, value_from}
 use Rattle.linktext.specs.Fields.{within_32_bits}
-
-pub all_at : (f : ℕ → Bool) (l : List ℕ) (i : ℕ) → i < length l → list_all f l ≡ true → f (get_or l i 0) ≡ true
-all_at f [] i h e = absurd (omega arith)
-all_at f (x ∷ l) zero h e = and_left (f x) (list_all f l) e
-all_at f (x ∷ l) (suc i) h e = all_at f l i (omega arith) (and_right (f x) (list_all f l) e)
 
 pub value_next : (l : List ℕ) (v i d w : ℕ) → i < length l → d ≡ get_or l i 0 - digit0 → value_from v (drop i l) ≡ w
     → value_from (10 * v + d) (drop (i + 1) l) ≡ w

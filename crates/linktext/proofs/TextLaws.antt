@@ -10,14 +10,14 @@ use mathlib.Core.List.{List, [], ◌∷◌, ◌++◌, append_assoc}
 use native.Mathlib.Omega.{arith}
 use lib.Dec.{ltb, eqb}
 use lib.ListN.{length, length-append}
-use borrow.Author.Tests.{eq-eqb, ne_eqb}
+use borrow.Author.Tests.{ne_eqb}
 use Rattle.std.specs.Prelude.{Err, Ok, Result}
 use Rattle.rules.specs.declared.Link.{Link}
 use Rattle.rules.specs.Lists.{Without}
 use Rattle.rules.proofs.Tests.{by_cond, clash}
 use Rattle.linktext.specs.declared.Reason.{Reason}
 use Rattle.linktext.specs.declared.LineRead.TheVariants.{Skip, Reads}
-use Rattle.linktext.specs.Lines.{lf, hash, minus, bar, digit0, first_field, read_of_fields, read_of_line}
+use Rattle.linktext.specs.Lines.{lf, hash, bar, digit0, first_field, read_of_fields, read_of_line}
 use Rattle.linktext.specs.Texts.{lines_of, digits, decimal, relation_text, line_text, text_of, keep_line}
 use Rattle.linktext.specs.Plain.{Plain, line_body}
 use Rattle.linktext.proofs.LineLaws.{body_Without}
@@ -54,14 +54,6 @@ digits_bound zero n = omega arith
 digits_bound (suc k) n =
     by_cond (λ (f : List ℕ). length f ≤ suc k) (ltb n 10) _ _ (λ e. omega arith)
     (λ e. omega (arith, length-append (digits k (n / 10)) ((digit0 + n % 10) ∷ []), digits_bound k (n / 10)))
-
-pub relation_one : (r : ℕ) → r ≡ 1 → relation_text r ≡ minus ∷ 49 ∷ []
-unfolding relation_text
-relation_one r h = simp (eq-eqb r 1 h)
-
-pub relation_other : (r : ℕ) → (r ≡ 1 → ⊥) → relation_text r ≡ digit0 ∷ []
-unfolding relation_text
-relation_other r h = simp (ne_eqb r 1 h)
 
 pub relation_bound : (r : ℕ) → length (relation_text r) ≤ 2
 unfolding relation_text
