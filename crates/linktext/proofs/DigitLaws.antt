@@ -12,9 +12,10 @@ use native.Mathlib.Omega.{arith}
 use lib.Dec.{ltb, leb, eqb}
 use lib.ListN.{length, length-append}
 use lib.Seq.{append_snoc}
+use Rattle.std.specs.Prelude.{max}
 use borrow.Author.Tests.{ltb-true, ltb-false, leb-true, eqb-false, not-true, lt-ltb, le-ltb, le-leb, ne_eqb}
 use Rattle.std.specs.Prelude.{Err, Ok, Result}
-use Rattle.rules.specs.Lists.{all_of}
+use Rattle.std.specs.List.{list_all}
 use Rattle.rules.proofs.Tests.{by_cond, and_left, and_right, clash}
 use Rattle.linktext.specs.declared.NumeralFault.{NumeralFault}
 use Rattle.linktext.specs.declared.NumeralFault.TheVariants.{NoForm, OverLarge}
@@ -51,6 +52,10 @@ Spells-digits {n} (suc k) (more m d g p q s e w) b =
     let u : n % 10 ≡ d = omega arith in
     digits_long (suc k) n (omega arith) ∙ rw (t, u) (ap (λ (l : List ℕ). l ++ ((digit0 + d) ∷ [])) (Spells-digits k s (omega arith)) ∙ sym w)
 
+some_power : (m : ℕ) → 1 ≤ 10 ^ m
+some_power zero = omega arith
+some_power (suc m) = omega (arith, some_power m)
+
 -- ---- fields
 
 pub digit_test : (c : ℕ) → digit0 ≤ c → c ≤ digit9 → is_decimal_digit c ≡ true
@@ -70,16 +75,16 @@ unfolding value_from
 value_append [] g n = refl
 value_append (c ∷ f) g n = value_append f g (10 * n + (c - digit0))
 
-pub all_append : {A : Type 0} (t : A → Bool) (f g : List A) → all_of t f ≡ true → all_of t g ≡ true → all_of t (f ++ g) ≡ true
+pub all_append : {A : Type 0} (t : A → Bool) (f g : List A) → list_all t f ≡ true → list_all t g ≡ true → list_all t (f ++ g) ≡ true
 all_append t [] g p q = q
-all_append t (c ∷ f) g p q = simp (and_left (t c) (all_of t f) p, all_append t f g (and_right (t c) (all_of t f) p) q)
+all_append t (c ∷ f) g p q = simp (and_left (t c) (list_all t f) p, all_append t f g (and_right (t c) (list_all t f) p) q)
 
 -- a field that spells: a first digit, which is no zero if the number is none, and more digits
 pub record Formed (n : ℕ) (f : List ℕ) : Type 0 where
   pub first : ℕ
   pub others : List ℕ
   pub whole : f ≡ first ∷ others
-  pub every : all_of is_decimal_digit f ≡ true
+  pub every : list_all is_decimal_digit f ≡ true
   pub lead : 1 ≤ n → eqb first digit0 ≡ false
 
 pub Spells-Formed : {n : ℕ} {f : List ℕ} → Spells n f → Formed n f
@@ -127,16 +132,16 @@ unfolding numeral_of
 Spells-numeral {n} {f} s h = simp (Spells-form s, Spells-value s, le-leb n 4294967295 h)
 
 -- digits after what spells a number above 0
-Spells-on : {n : ℕ} {f : List ℕ} (g : List ℕ) → 1 ≤ n → Spells n f → all_of is_decimal_digit g ≡ true → Spells (value_from n g) (f ++ g)
+Spells-on : {n : ℕ} {f : List ℕ} (g : List ℕ) → 1 ≤ n → Spells n f → list_all is_decimal_digit g ≡ true → Spells (value_from n g) (f ++ g)
 unfolding value_from
 Spells-on {n} {f} [] h s e = rw append-nil s
 Spells-on {n} {f} (c ∷ g) h s e =
-    let low = digit_low c (and_left (is_decimal_digit c) (all_of is_decimal_digit g) e) in
-    let high = digit_high c (and_left (is_decimal_digit c) (all_of is_decimal_digit g) e) in
+    let low = digit_low c (and_left (is_decimal_digit c) (list_all is_decimal_digit g) e) in
+    let high = digit_high c (and_left (is_decimal_digit c) (list_all is_decimal_digit g) e) in
     let t : digit0 + (c - digit0) ≡ c = omega arith in
     let w : f ++ (c ∷ []) ≡ f ++ ((digit0 + (c - digit0)) ∷ []) = rw t in
     rw append_snoc at
-    (Spells-on {n = 10 * n + (c - digit0)} {f = f ++ (c ∷ [])} g (omega arith) (more n (c - digit0) f h (omega arith) s refl w) (and_right (is_decimal_digit c) (all_of is_decimal_digit g) e))
+    (Spells-on {n = 10 * n + (c - digit0)} {f = f ++ (c ∷ [])} g (omega arith) (more n (c - digit0) f h (omega arith) s refl w) (and_right (is_decimal_digit c) (list_all is_decimal_digit g) e))
 
 digit_Spells : (c : ℕ) → is_decimal_digit c ≡ true → Spells (10 * 0 + (c - digit0)) (c ∷ [])
 digit_Spells c e =
@@ -151,11 +156,11 @@ unfolding is_in_form value_from
 form_Spells [] e = clash (cc)
 form_Spells (c ∷ []) e = digit_Spells c e
 form_Spells (c ∷ d ∷ f) e =
-    let r = and_right (not (eqb c digit0)) (all_of is_decimal_digit (c ∷ d ∷ f)) e in
-    let z = not-true (eqb c digit0) (and_left (not (eqb c digit0)) (all_of is_decimal_digit (c ∷ d ∷ f)) e) in
-    let low = digit_low c (and_left (is_decimal_digit c) (all_of is_decimal_digit (d ∷ f)) r) in
+    let r = and_right (not (eqb c digit0)) (list_all is_decimal_digit (c ∷ d ∷ f)) e in
+    let z = not-true (eqb c digit0) (and_left (not (eqb c digit0)) (list_all is_decimal_digit (c ∷ d ∷ f)) e) in
+    let low = digit_low c (and_left (is_decimal_digit c) (list_all is_decimal_digit (d ∷ f)) r) in
     let lead : 1 ≤ 10 * 0 + (c - digit0) = let ne : c ≢ digit0 = eqb-false c digit0 z in omega arith in
-    Spells-on (d ∷ f) lead (digit_Spells c (and_left (is_decimal_digit c) (all_of is_decimal_digit (d ∷ f)) r)) (and_right (is_decimal_digit c) (all_of is_decimal_digit (d ∷ f)) r)
+    Spells-on (d ∷ f) lead (digit_Spells c (and_left (is_decimal_digit c) (list_all is_decimal_digit (d ∷ f)) r)) (and_right (is_decimal_digit c) (list_all is_decimal_digit (d ∷ f)) r)
 
 pub record Numbered (f : List ℕ) (n : ℕ) : Type 0 where
   pub spells : Spells n f
@@ -186,13 +191,34 @@ decimal-Spells n h = digits_spell 9 n (omega arith)
 pub decimal_short : (n : ℕ) → n < 10 → decimal n ≡ (digit0 + n) ∷ []
 decimal_short n h = digits_short 9 n h
 
-pub decimal_long : (n : ℕ) → 10 ≤ n → n < 4294967296 → decimal n ≡ decimal (n / 10) ++ ((digit0 + n % 10) ∷ [])
-decimal_long n h b =
-    digits_long 9 n h
-    ∙ ap (λ (f : List ℕ). f ++ ((digit0 + n % 10) ∷ [])) (sym (Spells-digits 9 (digits_spell 8 (n / 10) (omega arith)) (omega arith)))
+-- as many digits as the powers of ten say
+count_by_powers : (k r n : ℕ) → r < k → 10 ^ r ≤ n → n < 10 * 10 ^ r → length (digits k n) ≡ r + 1
+count_by_powers zero r n h p q = absurd (omega arith)
+count_by_powers (suc k) zero n h p q = ap length (digits_short k n (omega arith))
+count_by_powers (suc k) (suc r) n h p q =
+    let more = count_by_powers k r (n / 10) (omega arith) (omega arith) (omega arith) in
+    ap length (digits_long k n (omega (arith, some_power r))) ∙ length-append (digits k (n / 10)) ((digit0 + n % 10) ∷ []) ∙ omega (arith, more)
 
-pub long_count : (n : ℕ) → 10 ≤ n → n < 4294967296 → length (decimal n) ≡ length (decimal (n / 10)) + 1
-long_count n h b = ap length (decimal_long n h b) ∙ length-append (decimal (n / 10)) ((digit0 + n % 10) ∷ [])
+pub decimal_count : (n r : ℕ) → 10 ^ r ≤ max n 1 → max n 1 < 10 * 10 ^ r → r < 10 → length (decimal n) ≡ r + 1
+unfolding digits
+decimal_count zero zero p q h = refl
+decimal_count zero (suc r) p q h = absurd (omega (arith, some_power r))
+decimal_count (suc n) r p q h = count_by_powers 10 r (suc n) h (omega arith) (omega arith)
 
-pub decimal_some : (n : ℕ) → n < 4294967296 → 1 ≤ length (decimal n)
-decimal_some n b = let r = Spells-Formed (decimal-Spells n b) in rw r.whole (omega arith)
+-- the last k digits of a number, with zeros before those that it has
+abbrev pub last_digits : ℕ → ℕ → List ℕ
+last_digits zero n = []
+last_digits (suc k) n = last_digits k (n / 10) ++ ((digit0 + n % 10) ∷ [])
+
+pub length-last_digits : (k n : ℕ) → length (last_digits k n) ≡ k
+length-last_digits zero n = refl
+length-last_digits (suc k) n = omega (arith, length-append (last_digits k (n / 10)) ((digit0 + n % 10) ∷ []), length-last_digits k (n / 10))
+
+pub all_last_digits : (k n : ℕ) → last_digits (length (digits k n)) n ≡ digits k n
+unfolding digits
+all_last_digits zero n = refl
+all_last_digits (suc k) n =
+    by_cond (λ (f : List ℕ). last_digits (length f) n ≡ f) (ltb n 10) _ _
+    (λ e. let m : n % 10 ≡ n = omega (arith, ltb-true n 10 e) in ap (λ (x : ℕ). (digit0 + x) ∷ []) m)
+    (λ e. let one : length (digits k (n / 10) ++ ((digit0 + n % 10) ∷ [])) ≡ suc (length (digits k (n / 10))) = omega (arith, length-append (digits k (n / 10)) ((digit0 + n % 10) ∷ [])) in
+    rw one (ap (λ (f : List ℕ). f ++ ((digit0 + n % 10) ∷ [])) (all_last_digits k (n / 10))))

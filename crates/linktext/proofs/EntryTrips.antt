@@ -19,7 +19,7 @@ use Rattle.rules.specs.Lists.{In}
 use Rattle.rules.specs.Network.{links_of, flat}
 use Rattle.rules.proofs.Tests.{by_cond, clash}
 use Rattle.rules.proofs.NetworkLaws.{links_of-flat, flat-length}
-use Rattle.linktext.specs.Texts.{links, text_in, text_of, fault_of_relations, fault_of_text, without_comments}
+use Rattle.linktext.specs.Texts.{text_in, text_of, fault_of_relations, fault_of_text, without_comments}
 use Rattle.linktext.specs.Plain.{Plain}
 use Rattle.linktext.proofs.EntryLaws.{passes_count, passes_relations}
 use Rattle.linktext.proofs.RoundTrips.{read_write, write_read, read_plain, read_count}
@@ -43,7 +43,7 @@ relations_small i (k ∷ ls) e l m =
     e
 
 pub written_reads : (limits : Limits) (ws : List ℕ) → ((x : ℕ) → In x ws → x < 4294967296) → fault_of_text limits ws ≡ Ok tt
-    → length (text_of (links_of ws)) ≤ limits.text → text_in limits (text_of (links_of ws)) ≡ links (links_of ws)
+    → length (text_of (links_of ws)) ≤ limits.text → text_in limits (text_of (links_of ws)) ≡ Ok (links_of ws)
 written_reads limits ws h e b = read_write limits (links_of ws) plain (passes_count limits ws e) b
   where
     plain : (l : Link) → In l (links_of ws) → Plain l
@@ -58,11 +58,11 @@ unfolding fault_of_relations
 plain_passes i [] p = refl
 plain_passes i (l ∷ ls) p = simp (le-ltb 1 l.relation (p l (inl refl)).third, plain_passes (suc i) ls (λ k m. p k (inr m)))
 
-pub read_passes : (limits : Limits) (t : List ℕ) (ls : List Link) → text_in limits t ≡ links ls → fault_of_text limits (flat ls) ≡ Ok tt
+pub read_passes : (limits : Limits) (t : List ℕ) (ls : List Link) → text_in limits t ≡ Ok ls → fault_of_text limits (flat ls) ≡ Ok tt
 unfolding fault_of_text
 read_passes limits t ls e =
     simp
     (eq-eqb (length (flat ls) % 3) 0 (omega (arith, flat-length ls)), links_of-flat ls, le-ltb limits.links (length ls) (read_count limits t ls e), plain_passes 0 ls (read_plain limits t ls e))
 
-pub read_writes : (limits : Limits) (t : List ℕ) (ls : List Link) → text_in limits t ≡ links ls → text_of (links_of (flat ls)) ≡ without_comments t
+pub read_writes : (limits : Limits) (t : List ℕ) (ls : List Link) → text_in limits t ≡ Ok ls → text_of (links_of (flat ls)) ≡ without_comments t
 read_writes limits t ls e = ap text_of (links_of-flat ls) ∙ write_read limits t ls e

@@ -14,6 +14,8 @@ use native.Mathlib.Omega.{arith}
 use lib.Arith.{digits_div, digits_mod}
 use lib.Bits.{bit_and, bit_or, and_le_l, and_le_r, and_mask, and_block, and_high, and_shr, and_mod, or_add_and, or_shr, or_mod, or_lt}
 use lib.ListN.{get_or}
+use borrow.Author.Tests.{eqb-true}
+use Rattle.std.specs.Prelude.{true, ◌==◌}
 use Rattle.linktext.specs.Lines.{digit0}
 use Rattle.linktext.specs.Usual.{word, Four, Digits, spelled}
 
@@ -69,8 +71,9 @@ higher : (a b m k : ℕ) → bit_and (bit_or a b) m ≡ 0 → bit_and (bit_or (a
 higher a b m k e =
     ap (λ (n : ℕ). bit_and n (m / 2 ^ k)) (sym (or_shr a b k)) ∙ sym (and_shr (bit_or a b) m k) ∙ ap (λ (n : ℕ). n / 2 ^ k) e
 
-pub are_Digits : (n : ℕ) → n < 4294967296 → bit_and (bit_or n (n + 0x06060606)) 0xf0f0f0f0 ≡ 0 → Digits n
-are_Digits n h e =
+pub are_Digits : (n : ℕ) → n < 4294967296 → (bit_and (bit_or n (n + 0x06060606)) 0xf0f0f0f0 == 0) ≡ true → Digits n
+are_Digits n h t =
+    let e = eqb-true (bit_and (bit_or n (n + 0x06060606)) 0xf0f0f0f0) 0 t in
     let more = n + 0x06060606 in
     let first = Low-bytes n more 0xf0f0f0f0 e refl in
     let second = Low-bytes (n / 256) (more / 256) 0xf0f0f0 (higher n more 0xf0f0f0f0 8 e) refl in

@@ -1,6 +1,5 @@
 pub mod PlaceLaws
 pub mod NumberLaws
-pub mod FieldLaws
 pub mod ScratchLaws
 pub mod WordNetworks
 pub mod TurnLaws

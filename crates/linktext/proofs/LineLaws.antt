@@ -11,15 +11,16 @@ use native.Mathlib.Omega.{arith}
 use lib.Dec.{eqb}
 use lib.ListN.{length}
 use borrow.Author.Tests.{eqb-true, ne_eqb}
-use Rattle.std.specs.Prelude.{Err, Ok, Result}
+use Rattle.std.specs.Prelude.{Err, Ok, Result, Option, None, Some}
 use Rattle.rules.specs.declared.Link.{Link}
-use Rattle.rules.specs.Lists.{all_of, Without}
+use Rattle.std.specs.List.{list_all}
+use Rattle.rules.specs.Lists.{Without}
 use Rattle.rules.proofs.Tests.{by_cond, and_left, and_right, clash}
+use Rattle.linktext.specs.declared.Reason.{Reason}
 use Rattle.linktext.specs.declared.LineRead.{LineRead}
 use Rattle.linktext.specs.declared.LineRead.TheVariants.{Reads}
 use Rattle.linktext.specs.declared.NumeralFault.{NumeralFault}
-use Rattle.linktext.specs.declared.NumeralFault.TheVariants.{NoForm, OverLarge}
-use Rattle.linktext.specs.Lines.{hash, minus, bar, digit0, digit9, is_decimal_digit, numeral_of, before_bar, After, ends, rest, after_bar, Related, related, unrelated, relation_of, read_end, read_from_third, third_field, read_from_second, second_field, read_from_first, read_of_line}
+use Rattle.linktext.specs.Lines.{hash, minus, bar, digit0, digit9, is_decimal_digit, numeral_of, before_bar, after_bar, relation_of, read_end, read_from_third, third_field, read_from_second, second_field, read_from_first, first_field, read_of_fields, read_of_line}
 use Rattle.linktext.specs.Texts.{decimal, relation_text}
 use Rattle.linktext.specs.Plain.{Plain, line_body}
 use Rattle.linktext.proofs.DigitLaws.{Spells, Numbered, Spells-Formed, Spells-numeral, numeral_spells, decimal-Spells, Spells-digits, digit_low, digit_high}
@@ -31,13 +32,13 @@ Without-append s [] g p q = q
 Without-append s (c ∷ f) g p q = (p.0, Without-append s f g p.1 q)
 
 -- a sign that is no digit stands in no number
-digits_Without : (s : ℕ) (f : List ℕ) → all_of is_decimal_digit f ≡ true → (s < digit0) ⊎ (digit9 < s) → Without s f
+digits_Without : (s : ℕ) (f : List ℕ) → list_all is_decimal_digit f ≡ true → (s < digit0) ⊎ (digit9 < s) → Without s f
 digits_Without s [] e h = tt
 digits_Without s (c ∷ f) e h =
-    let d = and_left (is_decimal_digit c) (all_of is_decimal_digit f) e in
+    let d = and_left (is_decimal_digit c) (list_all is_decimal_digit f) e in
     let low = digit_low c d in
     let high = digit_high c d in
-    (⊎_elim (λ b. omega arith) (λ b. omega arith) h, digits_Without s f (and_right (is_decimal_digit c) (all_of is_decimal_digit f) e) h)
+    (⊎_elim (λ b. omega arith) (λ b. omega arith) h, digits_Without s f (and_right (is_decimal_digit c) (list_all is_decimal_digit f) e) h)
 
 decimal-Without : (s n : ℕ) → n < 4294967296 → (s < digit0) ⊎ (digit9 < s) → Without s (decimal n)
 decimal-Without s n b h = digits_Without s (decimal n) (Spells-Formed (decimal-Spells n b)).every h
@@ -63,7 +64,7 @@ unfolding before_bar
 before_bar_lem [] l h = refl
 before_bar_lem (c ∷ f) l h = simp (ne_eqb c bar (λ e. h.0 (sym e)), before_bar_lem f l h.1)
 
-after_bar_lem : (f l : List ℕ) → Without bar f → after_bar (f ++ (bar ∷ l)) ≡ rest l
+after_bar_lem : (f l : List ℕ) → Without bar f → after_bar (f ++ (bar ∷ l)) ≡ Some l
 unfolding after_bar
 after_bar_lem [] l h = refl
 after_bar_lem (c ∷ f) l h = simp (ne_eqb c bar (λ e. h.0 (sym e)), after_bar_lem f l h.1)
@@ -73,52 +74,52 @@ unfolding before_bar
 before_end [] h = refl
 before_end (c ∷ f) h = simp (ne_eqb c bar (λ e. h.0 (sym e)), before_end f h.1)
 
-after_end : (f : List ℕ) → Without bar f → after_bar f ≡ ends
+after_end : (f : List ℕ) → Without bar f → after_bar f ≡ None
 unfolding after_bar
 after_end [] h = refl
 after_end (c ∷ f) h = simp (ne_eqb c bar (λ e. h.0 (sym e)), after_end f h.1)
 
 -- what stands before a bar, the bar and what stands after it make the line
-bar_joins : (l m : List ℕ) → after_bar l ≡ rest m → before_bar l ++ (bar ∷ m) ≡ l
+bar_joins : (l m : List ℕ) → after_bar l ≡ Some m → before_bar l ++ (bar ∷ m) ≡ l
 unfolding before_bar after_bar
 bar_joins [] m e = clash (cc)
 bar_joins (c ∷ l) m e = go (eqb c bar) refl (bar_joins l m) e
   where
-    go : (t : Bool) → eqb c bar ≡ t → (after_bar l ≡ rest m → before_bar l ++ (bar ∷ m) ≡ l) → cond t (rest l) (after_bar l) ≡ rest m
+    go : (t : Bool) → eqb c bar ≡ t → (after_bar l ≡ Some m → before_bar l ++ (bar ∷ m) ≡ l) → cond t (Some l) (after_bar l) ≡ Some m
         → cond t [] (c ∷ before_bar l) ++ (bar ∷ m) ≡ c ∷ l
     go true b ih w = let k = eqb-true c bar b in cc
     go false b ih w = ap (λ (x : List ℕ). c ∷ x) (ih w)
 
-end_joins : (l : List ℕ) → after_bar l ≡ ends → before_bar l ≡ l
+end_joins : (l : List ℕ) → after_bar l ≡ None → before_bar l ≡ l
 unfolding before_bar after_bar
 end_joins [] e = refl
 end_joins (c ∷ l) e = go (eqb c bar) refl (end_joins l) e
   where
-    go : (t : Bool) → eqb c bar ≡ t → (after_bar l ≡ ends → before_bar l ≡ l) → cond t (rest l) (after_bar l) ≡ ends → cond t [] (c ∷ before_bar l) ≡ c ∷ l
+    go : (t : Bool) → eqb c bar ≡ t → (after_bar l ≡ None → before_bar l ≡ l) → cond t (Some l) (after_bar l) ≡ None → cond t [] (c ∷ before_bar l) ≡ c ∷ l
     go true b ih w = clash (cc)
     go false b ih w = ap (λ (x : List ℕ). c ∷ x) (ih w)
 
 -- ---- out and in
 
-relation_reads : (r : ℕ) → r ≤ 1 → relation_of (relation_text r) ≡ related r
+relation_reads : (r : ℕ) → r ≤ 1 → relation_of (relation_text r) ≡ Some r
 unfolding relation_of relation_text
 relation_reads zero h = refl
 relation_reads (suc zero) h = refl
 relation_reads (suc (suc r)) h = absurd (omega arith)
 
-third_reads : (l : Link) (at : ℕ) → Plain l → third_field l.a l.b at (rest (relation_text l.relation)) ≡ Reads l
+third_reads : (l : Link) (at : ℕ) → Plain l → third_field l.a l.b at (Some (relation_text l.relation)) ≡ Ok l
 third_reads l at p =
     let f = relation_Without bar l.relation (inr (omega arith)) in
     simp (before_end (relation_text l.relation) f, after_end (relation_text l.relation) f, relation_reads l.relation p.third)
 
-second_reads : (l : Link) (at : ℕ) → Plain l → second_field l.a at (rest (decimal l.b ++ (bar ∷ relation_text l.relation))) ≡ Reads l
+second_reads : (l : Link) (at : ℕ) → Plain l → second_field l.a at (Some (decimal l.b ++ (bar ∷ relation_text l.relation))) ≡ Ok l
 second_reads l at p =
     let f = decimal-Without bar l.b p.second (inr (omega arith)) in
     let m = relation_text l.relation in
     simp (before_bar_lem (decimal l.b) m f, after_bar_lem (decimal l.b) m f, Spells-numeral (decimal-Spells l.b p.second) (omega (arith, p.second)))
     (third_reads l (at + length (decimal l.b) + 1) p)
 
-first_reads : (f m : List ℕ) (n : ℕ) → Spells n f → n < 4294967296 → read_of_line (f ++ (bar ∷ m)) ≡ second_field n (length f + 2) (rest m)
+first_reads : (f m : List ℕ) (n : ℕ) → Spells n f → n < 4294967296 → read_of_line (f ++ (bar ∷ m)) ≡ read_of_fields (second_field n (length f + 2) (Some m))
 unfolding read_of_line
 first_reads [] m n s b = let w = (Spells-Formed s).whole in clash (cc)
 first_reads (c ∷ f) m n s b =
@@ -132,21 +133,21 @@ pub line_reads : (l : Link) → Plain l → read_of_line (line_body l) ≡ Reads
 unfolding line_body
 line_reads l p =
     first_reads (decimal l.a) (decimal l.b ++ (bar ∷ relation_text l.relation)) l.a (decimal-Spells l.a p.first) p.first
-    ∙ second_reads l (length (decimal l.a) + 2) p
+    ∙ ap read_of_fields (second_reads l (length (decimal l.a) + 2) p)
 
 -- ---- in and out
 
-relation_joins : (f : List ℕ) (r : ℕ) → relation_of f ≡ related r → (relation_text r ≡ f) × (r ≤ 1)
+relation_joins : (f : List ℕ) (r : ℕ) → relation_of f ≡ Some r → (relation_text r ≡ f) × (r ≤ 1)
 unfolding relation_of relation_text
 relation_joins [] r e = clash (cc)
 relation_joins (c ∷ []) r e = go (eqb c digit0) refl e
   where
-    go : (t : Bool) → eqb c digit0 ≡ t → cond t (related 0) unrelated ≡ related r → (relation_text r ≡ c ∷ []) × (r ≤ 1)
+    go : (t : Bool) → eqb c digit0 ≡ t → cond t (Some 0) None ≡ Some r → (relation_text r ≡ c ∷ []) × (r ≤ 1)
     go true b w = let q : 0 ≡ r = cc in let d = eqb-true c digit0 b in (cc, omega arith)
     go false b w = clash (cc)
 relation_joins (c ∷ d ∷ []) r e = go (eqb c minus) (eqb d 49) refl refl e
   where
-    go : (t u : Bool) → eqb c minus ≡ t → eqb d 49 ≡ u → cond (t && u) (related 1) unrelated ≡ related r
+    go : (t u : Bool) → eqb c minus ≡ t → eqb d 49 ≡ u → cond (t && u) (Some 1) None ≡ Some r
         → (relation_text r ≡ c ∷ d ∷ []) × (r ≤ 1)
     go true true p q w = let x : 1 ≡ r = cc in let y = eqb-true c minus p in let z = eqb-true d 49 q in (cc, omega arith)
     go true false p q w = clash (cc)
@@ -160,19 +161,19 @@ record Third (a b : ℕ) (l : List ℕ) (k : Link) : Type 0 where
   third : k.relation ≤ 1
   text : relation_text k.relation ≡ l
 
-Third-joins : (a b at : ℕ) (l : List ℕ) (k : Link) → third_field a b at (rest l) ≡ Reads k → Third a b l k
+Third-joins : (a b at : ℕ) (l : List ℕ) (k : Link) → third_field a b at (Some l) ≡ Ok k → Third a b l k
 Third-joins a b at l k e = go (relation_of (before_bar l)) refl e
   where
-    end : (r : ℕ) → relation_of (before_bar l) ≡ related r → (y : After) → after_bar l ≡ y → read_end a b r (at + length (before_bar l)) y ≡ Reads k → Third a b l k
-    end r h ends f w =
+    end : (r : ℕ) → relation_of (before_bar l) ≡ Some r → (y : Option (List ℕ)) → after_bar l ≡ y → read_end a b r (at + length (before_bar l)) y ≡ Ok k → Third a b l k
+    end r h None f w =
         let q : k ≡ record { a = a; b = b; relation = r } = cc in
         let j = relation_joins (before_bar l) r h in
         rw q (record { first = refl; second = refl; third = j.1; text = j.0 ∙ end_joins l f })
-    end r h (rest m) f w = clash (cc)
+    end r h (Some m) f w = clash (cc)
 
-    go : (x : Related) → relation_of (before_bar l) ≡ x → read_from_third a b at l x ≡ Reads k → Third a b l k
-    go unrelated h w = clash (cc)
-    go (related r) h w = end r h (after_bar l) refl w
+    go : (x : Option ℕ) → relation_of (before_bar l) ≡ x → read_from_third a b at l x ≡ Ok k → Third a b l k
+    go None h w = clash (cc)
+    go (Some r) h w = end r h (after_bar l) refl w
 
 record Second (a : ℕ) (l : List ℕ) (k : Link) : Type 0 where
   first : k.a ≡ a
@@ -180,12 +181,12 @@ record Second (a : ℕ) (l : List ℕ) (k : Link) : Type 0 where
   third : k.relation ≤ 1
   text : decimal k.b ++ (bar ∷ relation_text k.relation) ≡ l
 
-Second-joins : (a at : ℕ) (l : List ℕ) (k : Link) → second_field a at (rest l) ≡ Reads k → Second a l k
+Second-joins : (a at : ℕ) (l : List ℕ) (k : Link) → second_field a at (Some l) ≡ Ok k → Second a l k
 Second-joins a at l k e = go (numeral_of (before_bar l)) refl e
   where
-    end : (b : ℕ) → Numbered (before_bar l) b → (y : After) → after_bar l ≡ y → third_field a b (at + length (before_bar l) + 1) y ≡ Reads k → Second a l k
-    end b h ends f w = clash (cc)
-    end b h (rest m) f w =
+    end : (b : ℕ) → Numbered (before_bar l) b → (y : Option (List ℕ)) → after_bar l ≡ y → third_field a b (at + length (before_bar l) + 1) y ≡ Ok k → Second a l k
+    end b h None f w = clash (cc)
+    end b h (Some m) f w =
         let t = Third-joins a b (at + length (before_bar l) + 1) m k w in
         record {
           first = t.first;
@@ -194,9 +195,8 @@ Second-joins a at l k e = go (numeral_of (before_bar l)) refl e
           text = rw (t.second, t.text, Spells-digits 9 h.spells (omega (arith, h.small))) (bar_joins l m f);
         }
 
-    go : (x : Result ℕ NumeralFault) → numeral_of (before_bar l) ≡ x → read_from_second a at l x ≡ Reads k → Second a l k
-    go (Err NoForm) h w = clash (cc)
-    go (Err OverLarge) h w = clash (cc)
+    go : (x : Result ℕ NumeralFault) → numeral_of (before_bar l) ≡ x → read_from_second a at l x ≡ Ok k → Second a l k
+    go (Err fault) h w = clash (cc)
     go (Ok b) h w = end b (numeral_spells (before_bar l) b h) (after_bar l) refl w
 
 -- a line that reads as a link is the link's, and no comment
@@ -204,23 +204,26 @@ pub record LineOf (k : Link) (l : List ℕ) : Type 0 where
   pub plain : Plain k
   pub text : line_body k ≡ l
 
-first_joins : (l : List ℕ) (k : Link) → read_from_first l (numeral_of (before_bar l)) ≡ Reads k → LineOf k l
+first_joins : (l : List ℕ) (k : Link) → read_from_first l (numeral_of (before_bar l)) ≡ Ok k → LineOf k l
 unfolding line_body
 first_joins l k e = go (numeral_of (before_bar l)) refl e
   where
-    end : (a : ℕ) → Numbered (before_bar l) a → (y : After) → after_bar l ≡ y → second_field a (length (before_bar l) + 2) y ≡ Reads k → LineOf k l
-    end a h ends f w = clash (cc)
-    end a h (rest m) f w =
+    end : (a : ℕ) → Numbered (before_bar l) a → (y : Option (List ℕ)) → after_bar l ≡ y → second_field a (length (before_bar l) + 2) y ≡ Ok k → LineOf k l
+    end a h None f w = clash (cc)
+    end a h (Some m) f w =
         let t = Second-joins a (length (before_bar l) + 2) m k w in
         record {
           plain = record { first = omega (arith, t.first, h.small); second = t.second; third = t.third };
           text = rw (t.first, t.text, Spells-digits 9 h.spells (omega (arith, h.small))) (bar_joins l m f);
         }
 
-    go : (x : Result ℕ NumeralFault) → numeral_of (before_bar l) ≡ x → read_from_first l x ≡ Reads k → LineOf k l
-    go (Err NoForm) h w = clash (cc)
-    go (Err OverLarge) h w = clash (cc)
+    go : (x : Result ℕ NumeralFault) → numeral_of (before_bar l) ≡ x → read_from_first l x ≡ Ok k → LineOf k l
+    go (Err fault) h w = clash (cc)
     go (Ok a) h w = end a (numeral_spells (before_bar l) a h) (after_bar l) refl w
+
+reads_fields : (x : Result Link Reason) (k : Link) → read_of_fields x ≡ Reads k → x ≡ Ok k
+reads_fields (Ok l) k e = cc
+reads_fields (Err why) k e = clash (cc)
 
 pub reads_line : (l : List ℕ) (k : Link) → read_of_line l ≡ Reads k → LineOf k l
 unfolding read_of_line
@@ -228,5 +231,5 @@ reads_line [] k e = clash (cc)
 reads_line (c ∷ l) k e =
     by_cond (λ (x : LineRead). x ≡ Reads k → LineOf k (c ∷ l)) (eqb c hash) _ _
     (λ h w. clash (cc))
-    (λ h w. first_joins (c ∷ l) k w)
+    (λ h w. first_joins (c ∷ l) k (reads_fields (first_field (c ∷ l)) k w))
     e

@@ -1,23 +1,25 @@
 -- Laws of the first place of a byte: a field ends at the first bar, a line at the first LF, or where the bytes end.
 --
 --   place_within       the place lies within
---   place_here, place_later   one byte further
---   Cut l from end     the field of l that begins at `from` ends at `end`
+--   place_found, place_none   what the library's search says of the place
 --   cut                where `find` stops, a field ends
 --   first_line_lem     where `find` stops, a line ends
 use mathlib.Core.Path.{◌≡◌, refl, ap, ◌∙◌}
 use mathlib.Core.Bool.{Bool, true, false, cond}
 use mathlib.Core.List.{List, [], ◌∷◌}
 use Prim.Native.Nat.{ℕ, suc, ◌+◌, ◌-◌, ◌≤◌, ◌<◌}
-use native.Mathlib.Numerals.{add-one}
 use native.Mathlib.Omega.{arith}
-use lib.Dec.{eqb}
-use lib.ListN.{length, get_or, take, drop, length-drop}
-use lib.Seq.{drop-cons, drop-drop, length-take-le}
-use borrow.Author.Tests.{eq-eqb, ne_eqb}
-use Rattle.linktext.specs.Lines.{lf, bar, before_bar, ends, rest, after_bar}
+use lib.Dec.{eqb, ltb}
+use lib.ListN.{length, take, drop, length-drop}
+use lib.Seq.{drop-drop, length-take-le}
+use borrow.Author.Tests.{ltb-false}
+use Rattle.std.specs.Prelude.{Option, None, Some, position, ◌==◌}
+use Rattle.std.specs.List.{position_or_len}
+use Rattle.std.proofs.lemmas.List.Recursion.{is_position_or_len}
+use Rattle.rules.proofs.Tests.{by_cond, clash}
+use Rattle.linktext.specs.Lines.{lf, bar, before_bar, after_bar}
 use Rattle.linktext.specs.Texts.{onto, lines_of}
-use Rattle.linktext.specs.Fields.{place_of}
+use Rattle.linktext.specs.Fields.{place_of, Cut}
 
 -- a fact about a test, from its two outcomes
 by_test : (P : Bool → Type 0) (t : Bool) → P true → P false → P t
@@ -34,13 +36,23 @@ place_le c (x ∷ l) =
 pub place_within : (c : ℕ) (l : List ℕ) (from end : ℕ) → from ≤ length l → end ≡ from + place_of c (drop from l) → end ≤ length l
 place_within c l from end h e = omega (arith, place_le c (drop from l), length-drop from l)
 
-pub place_here : (c : ℕ) (l : List ℕ) (i : ℕ) → i < length l → get_or l i 0 ≡ c → place_of c (drop i l) ≡ 0
+searched : (c : ℕ) (l : List ℕ) → place_of c l ≡ position_or_len (λ x. x == c) l
 unfolding place_of
-place_here c l i h e = simp (drop-cons l i 0 h, eq-eqb (get_or l i 0) c e)
+searched c l = is_position_or_len (place_of c) (λ x. x == c) refl (λ x xs. ap (λ (n : ℕ). cond (x == c) 0 n) (omega arith)) l
 
-pub place_later : (c : ℕ) (l : List ℕ) (i : ℕ) → i < length l → (get_or l i 0 ≡ c → ⊥) → place_of c (drop i l) ≡ suc (place_of c (drop (i + 1) l))
-unfolding place_of
-place_later c l i h e = simp (add-one, drop-cons l i 0 h, ne_eqb (get_or l i 0) c e)
+-- what the library's search finds is the place
+pub place_found : (c i : ℕ) (l : List ℕ) → Some i ≡ position (λ x. x == c) l → i ≡ place_of c l
+place_found c i l =
+    by_cond (λ (o : Option ℕ). Some i ≡ o → i ≡ place_of c l) (ltb (position_or_len (λ x. x == c) l) (length l)) _ _
+    (λ b e. let p = searched c l in cc)
+    (λ b e. clash (cc))
+
+-- .. and where it finds nothing, the place is the end
+pub place_none : (c : ℕ) (l : List ℕ) → None ≡ position (λ x. x == c) l → place_of c l ≡ length l
+place_none c l =
+    by_cond (λ (o : Option ℕ). None ≡ o → place_of c l ≡ length l) (ltb (position_or_len (λ x. x == c) l) (length l)) _ _
+    (λ b e. clash (cc))
+    (λ b e. omega (arith, searched c l, place_le c l, ltb-false (position_or_len (λ x. x == c) l) (length l) b))
 
 before_bar_lem : (l : List ℕ) → take (place_of bar l) l ≡ before_bar l
 unfolding place_of before_bar
@@ -49,34 +61,26 @@ before_bar_lem (x ∷ l) =
     by_test (λ (t : Bool). take (cond t 0 (suc (place_of bar l))) (x ∷ l) ≡ cond t [] (x ∷ before_bar l)) (eqb x bar) refl
     (ap (λ (k : List ℕ). x ∷ k) (before_bar_lem l))
 
-after_bar_lem : (l : List ℕ) → place_of bar l < length l → after_bar l ≡ rest (drop (suc (place_of bar l)) l)
+after_bar_lem : (l : List ℕ) → place_of bar l < length l → after_bar l ≡ Some (drop (suc (place_of bar l)) l)
 unfolding place_of after_bar
 after_bar_lem [] h = absurd (omega arith)
 after_bar_lem (x ∷ l) h =
     by_test
     (λ (t : Bool). cond t 0 (suc (place_of bar l)) < suc (length l)
-    → cond t (rest l) (after_bar l) ≡ rest (drop (suc (cond t 0 (suc (place_of bar l)))) (x ∷ l)))
+    → cond t (Some l) (after_bar l) ≡ Some (drop (suc (cond t 0 (suc (place_of bar l)))) (x ∷ l)))
     (eqb x bar)
     (λ k. refl)
     (λ k. after_bar_lem l (omega arith))
     h
 
-no_bar : (l : List ℕ) → length l ≤ place_of bar l → after_bar l ≡ ends
+no_bar : (l : List ℕ) → length l ≤ place_of bar l → after_bar l ≡ None
 unfolding place_of after_bar
 no_bar [] h = refl
 no_bar (x ∷ l) h =
-    by_test (λ (t : Bool). suc (length l) ≤ cond t 0 (suc (place_of bar l)) → cond t (rest l) (after_bar l) ≡ ends) (eqb x bar)
+    by_test (λ (t : Bool). suc (length l) ≤ cond t 0 (suc (place_of bar l)) → cond t (Some l) (after_bar l) ≡ None) (eqb x bar)
     (λ k. absurd (omega arith))
     (λ k. no_bar l (omega arith))
     h
-
-pub record Cut (l : List ℕ) (from end : ℕ) : Type 0 where
-  pub after : from ≤ end
-  pub within : end ≤ length l
-  pub field : take (end - from) (drop from l) ≡ before_bar (drop from l)
-  pub long : from + length (before_bar (drop from l)) ≡ end
-  pub more : end < length l → after_bar (drop from l) ≡ rest (drop (end + 1) l)
-  pub last : length l ≤ end → after_bar (drop from l) ≡ ends
 
 pub cut : (l : List ℕ) (from end : ℕ) → from ≤ length l → end ≡ from + place_of bar (drop from l) → Cut l from end
 cut l from end h e =
@@ -91,7 +95,7 @@ cut l from end h e =
       within = omega arith;
       field = f;
       long = omega (arith, ap length (before_bar_lem (drop from l)), length-take-le p (drop from l) le);
-      more = λ k. after_bar_lem (drop from l) (omega arith) ∙ ap rest (drop-drop (suc p) from l ∙ ap (λ (n : ℕ). drop n l) s);
+      more = λ k. after_bar_lem (drop from l) (omega arith) ∙ ap Some (drop-drop (suc p) from l ∙ ap (λ (n : ℕ). drop n l) s);
       last = λ k. no_bar (drop from l) (omega arith);
     }
 

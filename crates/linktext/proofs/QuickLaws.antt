@@ -1,16 +1,12 @@
 -- Laws of the quick reader: what it has passed stands in the text as it would be written.
 --
 --   here, join         one byte stands; two parts that follow each other stand
---   unsure             of a value that is too large nothing is said
 --   under              a value that can take one digit more
---   Begun-one, begun_more, Begun-Found   a number's first digit, one more, the end; Begun-next   one more, as it is tested
+--   Begun-one, begun_more, Begun-next   a number's first digit, one more; one more, as it is tested
 --   Begun-four, Begun-eight   its first four at once, and four more
 --   spell_none, begins the number 0; any other number's first digit, as it is tested
---   relation_none, relation_some   the relations `0` and `-1`
---   and_byte           one byte more: a bar or an LF
---   no_link_lem, all_parts, Written-Gives  a link that is unsure; a link from its three parts; its line gives it
+--   Written-Gives      a link's line gives the link
 use mathlib.Core.Path.{◌≡◌, refl, sym, ap, ◌∙◌}
-use mathlib.Core.Bool.{true}
 use mathlib.Core.List.{List, [], ◌∷◌, ◌++◌, append_assoc}
 use Prim.Native.Nat.{ℕ, zero, suc, ◌+◌, ◌-◌, ◌*◌, ◌/◌, ◌%◌, ◌^◌, ◌≤◌, ◌<◌}
 use native.Mathlib.Numerals.{add-one}
@@ -21,15 +17,15 @@ use borrow.Author.Tests.{eq-eqb, ne_eqb}
 use Rattle.rules.specs.declared.Link.{Link}
 use Rattle.rules.specs.Lists.{Without}
 use Rattle.linktext.specs.declared.LineRead.TheVariants.{Reads}
-use Rattle.linktext.specs.Lines.{lf, minus, digit0, is_decimal_digit}
-use Rattle.linktext.specs.Texts.{decimal, relation_text}
+use Rattle.linktext.specs.Lines.{lf, digit0, digit9}
+use Rattle.linktext.specs.Texts.{decimal}
 use Rattle.linktext.specs.Fields.{place_of}
 use Rattle.linktext.specs.Plain.{line_body}
-use Rattle.linktext.specs.Usual.{Stands, Found, Begun, Four, Digits, spelled, field_text, end_text, Written, Gives}
-use Rattle.linktext.proofs.DigitLaws.{more, digits_spell, Spells-digits, decimal_short, digit_low, digit_high}
+use Rattle.linktext.specs.Usual.{Stands, Found, Begun, FourDigits, Written, Gives}
+use Rattle.linktext.proofs.DigitLaws.{more, digits_spell, Spells-digits, decimal_short}
 use Rattle.linktext.proofs.FourLaws.{digit_Bytes}
 use Rattle.linktext.proofs.LineLaws.{body_Without, line_reads}
-use Rattle.linktext.proofs.TextLaws.{line_text_lem, Line-parts, relation_one, relation_other}
+use Rattle.linktext.proofs.TextLaws.{line_text_lem}
 
 -- ---- bytes that stand
 
@@ -42,9 +38,6 @@ join {t} {f} {g} {at} {mid} {end} p q =
       bytes = p.bytes ∙ ap (λ (l : List ℕ). f ++ l) q.bytes ∙ sym (append_assoc f g (drop end t));
       after = omega (arith, p.after, q.after, length-append f g);
     }
-
-pub unsure : (t : List ℕ) (at room most : ℕ) (written : ℕ → List ℕ) (v end : ℕ) → end ≤ at + room → most < v → Found t at room most written v end
-unsure t at room most written v end h k = record { within = h; sure = λ s. absurd (omega arith) }
 
 -- ---- numbers of at most ten digits
 
@@ -88,81 +81,45 @@ begun_more {t} {at} {k} {v} d s h l e =
       stands = rw (decimal_more v d s.some (under s h) l, ← next) (join s.stands byte);
     }
 
-pub Begun-next : {t : List ℕ} {at k v : ℕ} (d : ℕ) → Begun t at k v → k < 10 → is_decimal_digit (get_or t (at + k) 0) ≡ true → d ≡ get_or t (at + k) 0 - digit0
+pub Begun-next : {t : List ℕ} {at k v : ℕ} (d : ℕ) → Begun t at k v → k < 10 → digit0 ≤ get_or t (at + k) 0 → get_or t (at + k) 0 ≤ digit9 → d ≡ get_or t (at + k) 0 - digit0
     → Begun t at (k + 1) (10 * v + d)
-Begun-next {t} {at} {k} d s h e p =
-    let low = digit_low (get_or t (at + k) 0) e in
-    let high = digit_high (get_or t (at + k) 0) e in
-    begun_more d s h (omega arith) (omega arith)
-
-pub Begun-Found : {t : List ℕ} {at k v : ℕ} → Begun t at k v → Found t at 10 4294967295 decimal v (at + k)
-Begun-Found s = record { within = omega (arith, s.most); sure = λ _. s.stands }
+Begun-next d s h low high p = begun_more d s h (omega arith) (omega arith)
 
 -- four digits at once: the first four, and four more
-pub Begun-four : (t : List ℕ) (at n : ℕ) → at + 10 ≤ length t → Four t at n → Digits n → (get_or t at 0 ≡ digit0 → ⊥) → Begun t at 4 (spelled n)
-Begun-four t at n h f p z =
-    let b = digit_Bytes t at n f p in
+pub Begun-four : {t : List ℕ} {at v : ℕ} → at + 10 ≤ length t → FourDigits t at v → (get_or t at 0 ≡ digit0 → ⊥) → Begun t at 4 v
+Begun-four {t} {at} {v} h f z =
+    let n = f.four in
+    let p = f.digits in
+    let b = digit_Bytes t at n f.bytes p in
     let one = Begun-one t at (n % 256) h (omega (arith, b.first)) p.first b.first in
     let two = begun_more (n / 256 % 256) one (omega arith) p.second b.second in
     let three = begun_more (n / 65536 % 256) two (omega arith) p.third b.third in
     let four = begun_more (n / 16777216) three (omega arith) p.fourth b.fourth in
-    let same : 10 * (10 * (10 * (n % 256) + n / 256 % 256) + n / 65536 % 256) + n / 16777216 ≡ spelled n = omega arith in
+    let same : 10 * (10 * (10 * (n % 256) + n / 256 % 256) + n / 65536 % 256) + n / 16777216 ≡ v = omega (arith, f.value) in
     rw same at four
 
-pub Begun-eight : {t : List ℕ} {at v : ℕ} (n : ℕ) → Begun t at 4 v → Four t (at + 4) n → Digits n → Begun t at 8 (10000 * v + spelled n)
-Begun-eight {t} {at} {v} n s f p =
-    let b = digit_Bytes t (at + 4) n f p in
+pub Begun-eight : {t : List ℕ} {at v w : ℕ} → Begun t at 4 v → FourDigits t (at + 4) w → Begun t at 8 (10000 * v + w)
+Begun-eight {t} {at} {v} {w} s f =
+    let n = f.four in
+    let p = f.digits in
+    let b = digit_Bytes t (at + 4) n f.bytes p in
     let place : (i : ℕ) → at + 4 + i ≡ at + (4 + i) = λ i. omega arith in
     let one = begun_more (n % 256) s (omega arith) p.first b.first in
     let two = begun_more (n / 256 % 256) one (omega arith) p.second (rw (place 1) at b.second) in
     let three = begun_more (n / 65536 % 256) two (omega arith) p.third (rw (place 2) at b.third) in
     let four = begun_more (n / 16777216) three (omega arith) p.fourth (rw (place 3) at b.fourth) in
-    let same : 10 * (10 * (10 * (10 * v + n % 256) + n / 256 % 256) + n / 65536 % 256) + n / 16777216 ≡ 10000 * v + spelled n = omega arith in
+    let same : 10 * (10 * (10 * (10 * v + n % 256) + n / 256 % 256) + n / 65536 % 256) + n / 16777216 ≡ 10000 * v + w = omega (arith, f.value) in
     rw same at four
 
 pub spell_none : (t : List ℕ) (at : ℕ) → at < length t → get_or t at 0 ≡ digit0 → Found t at 10 4294967295 decimal 0 (at + 1)
 spell_none t at h e =
-    record { within = omega arith; sure = λ _. rw (decimal_short 0 (omega arith)) (here t at digit0 h e) }
+    record { within = omega arith; small = omega arith; stands = rw (decimal_short 0 (omega arith)) (here t at digit0 h e) }
 
-pub begins : (t : List ℕ) (at d : ℕ) → at + 10 ≤ length t → is_decimal_digit (get_or t at 0) ≡ true → (get_or t at 0 ≡ digit0 → ⊥) → d ≡ get_or t at 0 - digit0
+pub begins : (t : List ℕ) (at d : ℕ) → at + 10 ≤ length t → digit0 ≤ get_or t at 0 → get_or t at 0 ≤ digit9 → (get_or t at 0 ≡ digit0 → ⊥) → d ≡ get_or t at 0 - digit0
     → Begun t at 1 d
-begins t at d h e z p =
-    let low = digit_low (get_or t at 0) e in
-    let high = digit_high (get_or t at 0) e in
-    Begun-one t at d h (omega arith) (omega arith) (omega arith)
+begins t at d h low high z p = Begun-one t at d h (omega arith) (omega arith) (omega arith)
 
--- ---- relations
-
-pub relation_none : (t : List ℕ) (at : ℕ) → at < length t → get_or t at 0 ≡ digit0 → Found t at 2 1 relation_text 0 (at + 1)
-relation_none t at h e =
-    record { within = omega arith; sure = λ _. rw (relation_other 0 (λ z. omega arith)) (here t at digit0 h e) }
-
-pub relation_some : (t : List ℕ) (at : ℕ) → at + 2 ≤ length t → get_or t at 0 ≡ minus → get_or t (at + 1) 0 ≡ 49 → Found t at 2 1 relation_text 1 (at + 2)
-relation_some t at h e f =
-    let two : at + 1 + 1 ≡ at + 2 = omega arith in
-    record {
-      within = omega arith;
-      sure = λ _. rw (relation_one 1 refl, ← two) (join (here t at minus (omega arith) e) (here t (at + 1) 49 (omega arith) f));
-    }
-
--- ---- fields and lines
-
--- what was found, and one byte more
-pub and_byte : {t : List ℕ} {at room most v end : ℕ} {written : ℕ → List ℕ} (s : ℕ) → Found t at room most written v end → end < length t → get_or t end 0 ≡ s
-    → Found t at (room + 1) most (λ (n : ℕ). written n ++ (s ∷ [])) v (end + 1)
-and_byte {t} {end = end} s f h e = record { within = omega (arith, f.within); sure = λ b. join (f.sure b) (here t end s h e) }
-
-pub no_link_lem : (t : List ℕ) (at : ℕ) (l : Link) (end : ℕ) → l.relation ≡ 2 → Written t at l end
-no_link_lem t at l end e = record { plain = λ h. absurd (omega arith); sure = λ h. absurd (omega arith) }
-
-pub all_parts : {t : List ℕ} {at second third end : ℕ} (l : Link) → Found t at 11 4294967295 field_text l.a second
-    → Found t second 11 4294967295 field_text l.b third → Found t third 3 1 end_text l.relation (end + 1) → l.a ≤ 4294967295 → l.b ≤ 4294967295
-    → Written t at l end
-all_parts l f g e p q =
-    record {
-      plain = λ h. record { first = omega arith; second = omega arith; third = h };
-      sure = λ h. rw Line-parts (join (f.sure p) (join (g.sure q) (e.sure h)));
-    }
+-- ---- lines
 
 place_of_lem : (s : ℕ) (f l : List ℕ) → Without s f → place_of s (f ++ (s ∷ l)) ≡ length f
 unfolding place_of
@@ -170,16 +127,16 @@ place_of_lem s [] l h = simp (eq-eqb s s refl)
 place_of_lem s (c ∷ f) l h = simp (ne_eqb c s (λ e. h.0 (sym e)), place_of_lem s f l h.1)
 
 -- a link's line gives the link
-pub Written-Gives : {t : List ℕ} {at end : ℕ} {l : Link} → Written t at l end → l.relation ≤ 1 → Gives t at end (Reads l)
-Written-Gives {t} {at} {end} {l} w h =
-    let s = w.sure h in
+pub Written-Gives : {t : List ℕ} {at end : ℕ} {l : Link} → Written t at l end → Gives t at end (Reads l)
+Written-Gives {t} {at} {end} {l} w =
+    let s = w.stands in
     let after = drop (end + 1) t in
     let bytes : drop at t ≡ line_body l ++ (lf ∷ after) = s.bytes ∙ rw line_text_lem (append_assoc (line_body l) (lf ∷ []) after) in
     let place : place_of lf (drop at t) ≡ length (line_body l) =
-    rw bytes (place_of_lem lf (line_body l) after (body_Without lf l (w.plain h) (omega arith))) in
+    rw bytes (place_of_lem lf (line_body l) after (body_Without lf l w.plain (omega arith))) in
     let long : end - at ≡ length (line_body l) =
     omega (arith, s.after, ap length (line_text_lem l), length-append (line_body l) (lf ∷ [])) in
     record {
       stop = omega (arith, s.after, ap length (line_text_lem l), length-append (line_body l) (lf ∷ []));
-      gave = rw (bytes, take_at (line_body l) (lf ∷ after) (end - at) (sym long)) (sym (line_reads l (w.plain h)));
+      gave = rw (bytes, take_at (line_body l) (lf ∷ after) (end - at) (sym long)) (sym (line_reads l w.plain));
     }

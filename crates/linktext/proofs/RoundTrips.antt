@@ -1,7 +1,7 @@
 -- The round trips: reading what was written gives the same links, writing what was read gives the text without comments.
 --
 --   read_write         plain links, within the limits, come back from their text
---   base_bound, read_write_base   .. and at the limits of document 01 the number of links is limit enough
+--   base_bound, read_write_base   .. and at the base limits the number of links is limit enough
 --   write_read         the links of a text are written as that text without comments
 --   read_plain, read_count   the links of a text are plain, and within the limit
 use Prim.Native.Nat.{ℕ, suc, ◌+◌, ◌≤◌}
@@ -12,6 +12,7 @@ use native.Mathlib.Omega.{arith}
 use lib.Dec.{ltb, leb}
 use lib.ListN.{length}
 use borrow.Author.Tests.{le-ltb, lt-leb, leb-false}
+use Rattle.std.specs.Prelude.{Ok, Err}
 use Rattle.rules.specs.declared.Link.{Link}
 use Rattle.rules.specs.declared.Limits.{Limits}
 use Rattle.rules.specs.Lists.{In}
@@ -20,7 +21,7 @@ use Rattle.rules.proofs.Tests.{by_cond, clash}
 use Rattle.linktext.specs.declared.LineRead.{LineRead}
 use Rattle.linktext.specs.declared.LineRead.TheVariants.{Skip, Reads, Faulty}
 use Rattle.linktext.specs.Lines.{read_of_line}
-use Rattle.linktext.specs.Texts.{lines_of, TextRead, links, refused, and_link, take_line, text_read_from, text_in, text_of, keep_lines, without_comments}
+use Rattle.linktext.specs.Texts.{lines_of, TextRead, and_link, take_line, text_read_from, text_in, text_of, keep_lines, without_comments}
 use Rattle.linktext.specs.Plain.{Plain}
 use Rattle.linktext.proofs.LineLaws.{line_reads, reads_line}
 use Rattle.linktext.proofs.TextLaws.{text_line, lines_text_lem, text_bound, reads_kept, skip_left}
@@ -28,7 +29,7 @@ use Rattle.linktext.proofs.TextLaws.{text_line, lines_text_lem, text_bound, read
 -- ---- written, then read
 
 lines_back : (most n i : ℕ) (ls : List Link) → ((l : Link) → In l ls → Plain l) → n + length ls ≤ most
-    → text_read_from most n i (lines_of (text_of ls)) ≡ links ls
+    → text_read_from most n i (lines_of (text_of ls)) ≡ Ok ls
 unfolding text_read_from lines_of text_of
 lines_back most n i [] p h = refl
 lines_back most n i (l ∷ ls) p h =
@@ -36,7 +37,7 @@ lines_back most n i (l ∷ ls) p h =
     simp (lines_text_lem l ls q, line_reads l q, lt-leb most n (omega arith), lines_back most (suc n) (suc i) ls (λ k m. p k (inr m)) (omega arith))
 
 pub read_write : (limits : Limits) (ls : List Link) → ((l : Link) → In l ls → Plain l) → length ls ≤ limits.links
-    → length (text_of ls) ≤ limits.text → text_in limits (text_of ls) ≡ links ls
+    → length (text_of ls) ≤ limits.text → text_in limits (text_of ls) ≡ Ok ls
 unfolding text_in
 read_write limits ls p h k = simp (le-ltb limits.text (length (text_of ls)) k) (lines_back limits.links 0 1 ls p (omega arith))
 
@@ -44,7 +45,7 @@ read_write limits ls p h k = simp (le-ltb limits.text (length (text_of ls)) k) (
 pub base_bound : (ls : List Link) → length ls ≤ base_limits.links → length (text_of ls) ≤ 38400
 base_bound ls h = omega (arith, text_bound ls)
 
-pub read_write_base : (ls : List Link) → ((l : Link) → In l ls → Plain l) → length ls ≤ base_limits.links → text_in base_limits (text_of ls) ≡ links ls
+pub read_write_base : (ls : List Link) → ((l : Link) → In l ls → Plain l) → length ls ≤ base_limits.links → text_in base_limits (text_of ls) ≡ Ok ls
 read_write_base ls p h = read_write base_limits ls p h (omega (arith, base_bound ls h))
 
 -- ---- read, then written
@@ -74,7 +75,7 @@ taken most n l lines k ls e h =
       count = omega (arith, h.count);
     }
 
-kept : (most n i : ℕ) (lines : List (List ℕ)) (ls : List Link) → n ≤ most → text_read_from most n i lines ≡ links ls → Kept most n lines ls
+kept : (most n i : ℕ) (lines : List (List ℕ)) (ls : List Link) → n ≤ most → text_read_from most n i lines ≡ Ok ls → Kept most n lines ls
 unfolding text_read_from
 kept most n i [] ls h e = let q : ls ≡ [] = cc in rw q (nothing most n h)
 kept most n i (l ∷ lines) ls h e = go (read_of_line l) refl (λ m. kept most m (suc i) lines) e
@@ -82,31 +83,31 @@ kept most n i (l ∷ lines) ls h e = go (read_of_line l) refl (λ m. kept most m
     later : TextRead
     later = text_read_from most (suc n) (suc i) lines
 
-    add : (k : Link) (x : TextRead) → later ≡ x → read_of_line l ≡ Reads k → ((ms : List Link) → later ≡ links ms → Kept most (suc n) lines ms)
-        → and_link k x ≡ links ls → Kept most n (l ∷ lines) ls
-    add k (links ms) r b ih w = let q : ls ≡ k ∷ ms = cc in rw q (taken most n l lines k ms b (ih ms r))
-    add k (refused y) r b ih w = clash (cc)
+    add : (k : Link) (x : TextRead) → later ≡ x → read_of_line l ≡ Reads k → ((ms : List Link) → later ≡ Ok ms → Kept most (suc n) lines ms)
+        → and_link k x ≡ Ok ls → Kept most n (l ∷ lines) ls
+    add k (Ok ms) r b ih w = let q : ls ≡ k ∷ ms = cc in rw q (taken most n l lines k ms b (ih ms r))
+    add k (Err y) r b ih w = clash (cc)
 
-    go : (x : LineRead) → read_of_line l ≡ x → ((m : ℕ) (ms : List Link) → m ≤ most → text_read_from most m (suc i) lines ≡ links ms → Kept most m lines ms)
-        → take_line most n i (λ m. text_read_from most m (suc i) lines) x ≡ links ls → Kept most n (l ∷ lines) ls
+    go : (x : LineRead) → read_of_line l ≡ x → ((m : ℕ) (ms : List Link) → m ≤ most → text_read_from most m (suc i) lines ≡ Ok ms → Kept most m lines ms)
+        → take_line most n i (λ m. text_read_from most m (suc i) lines) x ≡ Ok ls → Kept most n (l ∷ lines) ls
     go Skip b ih w = skipped most n l lines ls b (ih n ls h w)
     go (Reads k) b ih w =
-        by_cond (λ (x : TextRead). x ≡ links ls → Kept most n (l ∷ lines) ls) (leb most n) _ _ (λ t v. clash (cc))
+        by_cond (λ (x : TextRead). x ≡ Ok ls → Kept most n (l ∷ lines) ls) (leb most n) _ _ (λ t v. clash (cc))
         (λ t v. add k later refl b (λ ms. ih (suc n) ms (leb-false most n t)) v)
         w
     go (Faulty y) b ih w = clash (cc)
 
-text_Kept : (limits : Limits) (t : List ℕ) (ls : List Link) → text_in limits t ≡ links ls → Kept limits.links 0 (lines_of t) ls
+text_Kept : (limits : Limits) (t : List ℕ) (ls : List Link) → text_in limits t ≡ Ok ls → Kept limits.links 0 (lines_of t) ls
 unfolding text_in
 text_Kept limits t ls =
-    by_cond (λ (x : TextRead). x ≡ links ls → Kept limits.links 0 (lines_of t) ls) (ltb limits.text (length t)) _ _ (λ b e. clash (cc))
+    by_cond (λ (x : TextRead). x ≡ Ok ls → Kept limits.links 0 (lines_of t) ls) (ltb limits.text (length t)) _ _ (λ b e. clash (cc))
     (λ b e. kept limits.links 0 1 (lines_of t) ls (omega arith) e)
 
-pub write_read : (limits : Limits) (t : List ℕ) (ls : List Link) → text_in limits t ≡ links ls → text_of ls ≡ without_comments t
+pub write_read : (limits : Limits) (t : List ℕ) (ls : List Link) → text_in limits t ≡ Ok ls → text_of ls ≡ without_comments t
 write_read limits t ls e = (text_Kept limits t ls e).text
 
-pub read_plain : (limits : Limits) (t : List ℕ) (ls : List Link) → text_in limits t ≡ links ls → (l : Link) → In l ls → Plain l
+pub read_plain : (limits : Limits) (t : List ℕ) (ls : List Link) → text_in limits t ≡ Ok ls → (l : Link) → In l ls → Plain l
 read_plain limits t ls e = (text_Kept limits t ls e).plain
 
-pub read_count : (limits : Limits) (t : List ℕ) (ls : List Link) → text_in limits t ≡ links ls → length ls ≤ limits.links
+pub read_count : (limits : Limits) (t : List ℕ) (ls : List Link) → text_in limits t ≡ Ok ls → length ls ≤ limits.links
 read_count limits t ls e = omega (arith, (text_Kept limits t ls e).count)

@@ -1,25 +1,20 @@
 -- Laws of links as words, three per link.
 --
 --   more_words         the words with one more link
---   copy_more          one word more copied
---   not_filled, is_filled   lent words after an output that does not fit, and that does
 --   Got x n ws         reading gave x: n links, whose words stand first in ws; got, lost   from the scratch and the reply
 use mathlib.Core.Path.{◌≡◌, refl, sym, ap, ◌∙◌}
 use mathlib.Core.List.{List, [], ◌∷◌, ◌++◌}
-use Prim.Native.Nat.{ℕ, suc, ◌+◌, ◌*◌, ◌≤◌, ◌<◌}
-use native.Mathlib.Numerals.{add-one}
+use Prim.Native.Nat.{ℕ, suc, ◌+◌, ◌*◌, ◌≤◌}
 use native.Mathlib.Omega.{arith}
-use lib.ListN.{length, get_or, take, drop, set, length-append}
-use lib.Seq.{sets, sets-eq, set_at, take_at, take-suc, drop-cons, drop-append-add, drop-drop, append_snoc, length-take-le}
-use borrow.Author.Tests.{lt-ltb, le-ltb}
+use lib.ListN.{length, take, drop, length-append}
+use lib.Seq.{sets, sets-eq, take_at, drop-append-add, drop-drop}
 use Rattle.std.specs.Prelude.{Err, Ok, Result}
 use Rattle.rules.specs.declared.Link.{Link}
 use Rattle.rules.specs.declared.Refusal.{Refusal}
 use Rattle.rules.specs.Network.{flat}
 use Rattle.rules.proofs.Tests.{clash}
 use Rattle.rules.proofs.NetworkLaws.{flat-length}
-use Rattle.linktext.specs.Texts.{TextRead, links, refused}
-use Rattle.linktext.specs.Entries.{filled}
+use Rattle.linktext.specs.Texts.{TextRead}
 use Rattle.network.specs.Promises.{with_link}
 use Rattle.linktext.specs.Scratch.{ReadInto}
 
@@ -44,28 +39,15 @@ more_words ls l old ws n c h s e =
     ∙ ap (λ (k : ℕ). drop k old) all in
     stored ∙ sets-eq vs ws i (omega arith) ∙ rw (front, back, flat_more)
 
-pub copy_more : (from to : List ℕ) (i : ℕ) → i < length from → i < length to
-    → set (take i from ++ drop i to) i (get_or from i 0) ≡ take (i + 1) from ++ drop (i + 1) to
-copy_more from to i h k =
-    let len = length-take-le i from (omega arith) in
-    rw (add-one, drop-cons to i 0, take-suc from i 0)
-    (set_at (take i from) (get_or to i 0) (drop (suc i) to) (get_or from i 0) i len ∙ sym (append_snoc (take i from) (get_or from i 0) (drop (suc i) to)))
-
-pub not_filled : (out old : List ℕ) → length old < length out → old ≡ filled out old
-not_filled out old h = simp (lt-ltb (length old) (length out) h)
-
-pub is_filled : (out old : List ℕ) → length out ≤ length old → out ++ drop (length out) old ≡ filled out old
-is_filled out old h = simp (le-ltb (length old) (length out) h)
-
 pub record Got (x : TextRead) (n : ℕ) (ws : List ℕ) : Type 0 where
   pub list : List Link
-  pub whole : x ≡ links list
+  pub whole : x ≡ Ok list
   pub count : length list ≡ n
   pub room : 3 * n ≤ length ws
   pub words : take (3 * n) ws ≡ flat list
 
 pub got : (x : TextRead) (old ws : List ℕ) (r : Result ℕ Refusal) (n : ℕ) → ReadInto x old ws r → r ≡ Ok n → Got x n ws
-got (links ls) old ws r n (p, q) e =
+got (Ok ls) old ws r n (p, q) e =
     let c : length ls ≡ n = cc in
     let len = flat-length ls in
     record {
@@ -75,8 +57,8 @@ got (links ls) old ws r n (p, q) e =
       room = omega (arith, ap length q, length-append (flat ls) (drop (3 * length ls) old));
       words = rw q (take_at (flat ls) (drop (3 * length ls) old) (3 * n) (omega arith));
     }
-got (refused why) old ws r n p e = clash (cc)
+got (Err why) old ws r n p e = clash (cc)
 
-pub lost : (x : TextRead) (old ws : List ℕ) (r : Result ℕ Refusal) (why : Refusal) → ReadInto x old ws r → r ≡ Err why → x ≡ refused why
-lost (links ls) old ws r why (p, q) e = cc
-lost (refused why') old ws r why p e = cc
+pub lost : (x : TextRead) (old ws : List ℕ) (r : Result ℕ Refusal) (why : Refusal) → ReadInto x old ws r → r ≡ Err why → x ≡ Err why
+lost (Ok ls) old ws r why (p, q) e = cc
+lost (Err why') old ws r why p e = cc

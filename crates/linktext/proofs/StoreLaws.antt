@@ -1,5 +1,5 @@
 -- Stores one after the other: a run whose last store is made first, runs with their places, and the digits of a number.
-use Prim.Native.Nat.{ℕ, suc, ◌+◌, ◌/◌, ◌%◌, ◌≤◌, ◌<◌}
+use Prim.Native.Nat.{ℕ, suc, ◌+◌, ◌-◌, ◌/◌, ◌%◌, ◌≤◌, ◌<◌}
 use mathlib.Core.Path.{◌≡◌, ◌∙◌, refl, sym, ap}
 use mathlib.Core.List.{List, [], ◌∷◌, ◌++◌}
 use native.Mathlib.Omega.{arith}
@@ -8,8 +8,7 @@ use lib.Seq.{sets, length-sets, set_comm}
 use Rattle.rules.proofs.StoreLaws.{sets-append}
 use Rattle.linktext.specs.Stored.{Stored}
 use Rattle.linktext.specs.Lines.{digit0}
-use Rattle.linktext.specs.Texts.{decimal}
-use Rattle.linktext.proofs.DigitLaws.{decimal_short, decimal_long, long_count}
+use Rattle.linktext.proofs.DigitLaws.{last_digits, length-last_digits}
 
 -- a store beyond a run can be made before it
 set_past : (l : List ℕ) (i : ℕ) (xs : List ℕ) (p y : ℕ) → i + length xs ≤ p → set (sets l i xs) p y ≡ sets (set l p y) i xs
@@ -41,14 +40,14 @@ Stored-then {a} {b} {c} {at} {p} {q} {xs} {ys} s t =
 
 -- ---- a number's digits, the last one first
 
-pub digit_first : (l : List ℕ) (at n p : ℕ) → 10 ≤ n → n < 4294967296 → p + 1 ≡ at + length (decimal n)
-    → sets (set l p (digit0 + n % 10)) at (decimal (n / 10)) ≡ sets l at (decimal n)
-digit_first l at n p h b e =
-    let q : p ≡ at + length (decimal (n / 10)) = omega (arith, long_count n h b) in
-    rw (q, decimal_long n h b) (sym (last_first l at (decimal (n / 10)) (digit0 + n % 10)))
+last_of_run : (l : List ℕ) (at k p n : ℕ) → p ≡ at + k
+    → sets (set l p (digit0 + n % 10)) at (last_digits k (n / 10)) ≡ sets l at (last_digits (suc k) n)
+last_of_run l at k p n e =
+    let long = length-last_digits k (n / 10) in
+    rw e (sym (rw long at (last_first l at (last_digits k (n / 10)) (digit0 + n % 10))))
 
-pub digit_only : (l : List ℕ) (at n p : ℕ) → n < 10 → p + 1 ≡ at + length (decimal n) → set l p (digit0 + n) ≡ sets l at (decimal n)
-digit_only l at n p h e =
-    let d = decimal_short n h in
-    let q : p ≡ at = omega (arith, ap length d) in
-    rw (q, d)
+pub digit_first : (l : List ℕ) (at p n : ℕ) → at < p
+    → sets (set l (p - 1) (digit0 + n % 10)) at (last_digits (p - 1 - at) (n / 10)) ≡ sets l at (last_digits (p - at) n)
+digit_first l at p n h =
+    let more : p - at ≡ suc (p - 1 - at) = omega arith in
+    rw more (last_of_run l at (p - 1 - at) (p - 1) n (omega arith))

@@ -23,7 +23,7 @@ use Rattle.rules.specs.Network.{flat}
 use Rattle.linktext.specs.declared.LineRead.{LineRead}
 use Rattle.linktext.specs.declared.LineRead.TheVariants.{Skip, Reads, Faulty}
 use Rattle.linktext.specs.Lines.{lf}
-use Rattle.linktext.specs.Texts.{lines_of, TextRead, links, refused, and_link, take_line, text_read_from}
+use Rattle.linktext.specs.Texts.{lines_of, TextRead, and_link, take_line, text_read_from}
 use Rattle.network.specs.Promises.{with_link}
 use Rattle.linktext.specs.Scratch.{ReadInto}
 use Rattle.linktext.specs.Usual.{Gives}
@@ -32,16 +32,16 @@ use Rattle.linktext.proofs.PlaceLaws.{place_within, first_line_lem}
 use Rattle.linktext.proofs.ScratchLaws.{more_words}
 
 abbrev pub behind : List Link → TextRead → TextRead
-behind done (links ls) = links (done ++ ls)
-behind done (refused r) = refused r
+behind done (Ok ls) = Ok (done ++ ls)
+behind done (Err r) = Err r
 
 behind_none : (x : TextRead) → behind [] x ≡ x
-behind_none (links ls) = refl
-behind_none (refused r) = refl
+behind_none (Ok ls) = refl
+behind_none (Err r) = refl
 
 behind_more : (done : List Link) (l : Link) (x : TextRead) → behind (done ++ (l ∷ [])) x ≡ behind done (and_link l x)
-behind_more done l (links ls) = ap links (append_assoc done (l ∷ []) ls)
-behind_more done l (refused r) = refl
+behind_more done l (Ok ls) = ap Ok (append_assoc done (l ∷ []) ls)
+behind_more done l (Err r) = refl
 
 pub record Held (t old : List ℕ) (most at line n : ℕ) (ws : List ℕ) : Type 0 where
   pub done : List Link
@@ -73,9 +73,9 @@ pub ends_all : {t old ws : List ℕ} {most at line n : ℕ} → Held t old most 
     → ReadInto (text_read_from most 0 1 (lines_of t)) old ws (Ok n)
 unfolding text_read_from lines_of
 ends_all {t} {old} {ws} {most} {at} {line} {n} H h =
-    let whole : text_read_from most 0 1 (lines_of t) ≡ links H.done =
+    let whole : text_read_from most 0 1 (lines_of t) ≡ Ok H.done =
     sym H.rest ∙ ap (λ (l : List ℕ). behind H.done (text_read_from most n line (lines_of l))) (drop_of_length-le t h)
-    ∙ ap links (append-nil H.done) in
+    ∙ ap Ok (append-nil H.done) in
     rw whole (rw H.count (refl, H.kept))
 
 -- a line that is no skip, and one that is no link, by its tag
@@ -96,7 +96,7 @@ no_link (Reads l) h = absurd (h l refl)
 no_link (Faulty why) h = inr refl
 
 bad_line : (most n i : ℕ) (next : ℕ → TextRead) (r : LineRead) → NoSkip r → NoLink r
-    → take_line most n i next r ≡ refused (Unreadable i)
+    → take_line most n i next r ≡ Err (Unreadable i)
 bad_line most n i next Skip p q = absurd (⊎_elim (λ e. omega arith) (λ e. omega arith) p)
 bad_line most n i next (Reads l) p q = absurd (⊎_elim (λ e. omega arith) (λ e. omega arith) q)
 bad_line most n i next (Faulty why) p q = refl
@@ -126,7 +126,7 @@ module _ {t old ws : List ℕ} {most at line n end : ℕ} {r : LineRead} (T : Tu
 
   pub stops_over : {l : Link} → r ≡ Reads l → most ≤ n → ReadInto (text_read_from most 0 1 (lines_of t)) old ws (Err OverLimit)
   stops_over {l} p k =
-      let full : take_line most n line further (Reads l) ≡ refused OverLimit = simp (le-leb most n k) in
+      let full : take_line most n line further (Reads l) ≡ Err OverLimit = simp (le-leb most n k) in
       rw (sym (turn p) ∙ ap (behind T.held.done) full) refl
 
   pub skips : r ≡ Skip → Held t old most (end + 1) (line + 1) n ws

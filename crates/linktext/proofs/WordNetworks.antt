@@ -17,7 +17,7 @@ use Rattle.rules.specs.Network.{flat, links_of}
 use Rattle.rules.specs.Checks.{check_links, check_words}
 use Rattle.rules.specs.Entry.{fault_of_links}
 use Rattle.rules.proofs.NetworkLaws.{links_of-flat, flat-length}
-use Rattle.linktext.specs.Texts.{refused, text_in}
+use Rattle.linktext.specs.Texts.{text_in}
 use Rattle.linktext.specs.TextNetworks.{links_of_text, fault_of_network}
 use Rattle.linktext.proofs.ScratchLaws.{Got}
 
@@ -27,7 +27,7 @@ module _ (limits : Limits) where
   check_flat ls = rw (eq-eqb (length (flat ls) % 3) 0 (omega (arith, flat-length ls)), links_of-flat)
 
   module _ (t : List ℕ) where
-    pub lost_fault : {why : Refusal} → text_in limits t ≡ refused why → fault_of_network limits t ≡ Err why
+    pub lost_fault : {why : Refusal} → text_in limits t ≡ Err why → fault_of_network limits t ≡ Err why
     unfolding fault_of_network
     lost_fault e = rw e
 

@@ -8,17 +8,13 @@ use lib.ListN.{length, length-append}
 use borrow.Author.Tests.{lt-ltb, le-ltb, eq-eqb, ne_eqb}
 use Rattle.std.specs.Prelude.{Err, Ok}
 use Rattle.rules.specs.declared.Limits.{Limits}
-use Rattle.rules.specs.declared.Refusal.TheVariants.{OverLimit, NoRelation}
+use Rattle.rules.specs.declared.Refusal.TheVariants.{OverLimit}
 use Rattle.rules.specs.Network.{links_of, link_in_words}
 use Rattle.linktext.specs.Texts.{line_text, text_of, fault_of_relations, fault_of_text}
 use Rattle.network.specs.Prefix.{links_from}
 use Rattle.network.proofs.PrefixLaws.{count, links_next, links_end}
 
 -- ---- the first link without a relation
-
-pub fault_here : (ws : List ℕ) (i : ℕ) → i < length ws / 3 → 1 < (link_in_words ws i).relation → fault_of_relations i (links_from ws i) ≡ Err (NoRelation i)
-unfolding fault_of_relations
-fault_here ws i h b = ap (fault_of_relations i) (links_next ws i (omega arith)) ∙ simp (lt-ltb 1 (link_in_words ws i).relation b)
 
 pub fault_later : (ws : List ℕ) (i : ℕ) → i < length ws / 3 → (link_in_words ws i).relation ≤ 1
     → fault_of_relations i (links_from ws i) ≡ fault_of_relations (i + 1) (links_from ws (i + 1))
@@ -43,7 +39,7 @@ pub length_next : (ws : List ℕ) (i : ℕ) → i < length ws / 3
     → length (text_of (links_from ws i)) ≡ length (line_text (link_in_words ws i)) + length (text_of (links_from ws (i + 1)))
 length_next ws i h = ap length (text_next ws i h) ∙ length-append (line_text (link_in_words ws i)) (text_of (links_from ws (i + 1)))
 
--- ---- refusals 1 and 3, and then the first link without a relation
+-- ---- the number of words, and then the first link without a relation
 
 pub fault_ragged : (limits : Limits) (ws : List ℕ) → (length ws % 3 ≡ 0 → ⊥) → fault_of_text limits ws ≡ Err OverLimit
 unfolding fault_of_text

@@ -10,23 +10,26 @@ use Rattle.std.specs.Prelude.{ℕ, ◌*◌, cond, List, ◌++◌, ltb, length, d
 use Rattle.rules.specs.declared.Limits.{Limits}
 use Rattle.rules.specs.declared.Refusal.TheVariants.{OutputShort}
 use Rattle.rules.specs.Network.{links_of, flat}
-use Rattle.linktext.specs.Texts.{TextRead, links, refused, text_in, text_of, fault_of_text}
+use Rattle.linktext.specs.Texts.{TextRead, text_in, text_of, fault_of_text}
 
 -- so many words or bytes into a room, 'output too short'
 abbrev pub fitted : ℕ → ℕ → ℕ → Result ℕ Refusal
 fitted room need value = cond (ltb room need) (Err OutputShort) (Ok value)
+
+abbrev pub room_fault : ℕ → ℕ → Verdict
+room_fault room need = cond (ltb room need) (Err OutputShort) (Ok tt)
 
 -- 'output words beyond the result stay as they were', and a refusal leaves all as it was
 abbrev pub filled : List ℕ → List ℕ → List ℕ
 filled out old = cond (ltb (length old) (length out)) old (out ++ drop (length out) old)
 
 abbrev pub reply_read : ℕ → TextRead → Result ℕ Refusal
-reply_read room (links ls) = fitted room (3 * length ls) (length ls)
-reply_read room (refused r) = Err r
+reply_read room (Ok ls) = fitted room (3 * length ls) (length ls)
+reply_read room (Err r) = Err r
 
 abbrev pub after_read : List ℕ → TextRead → List ℕ
-after_read ws (links ls) = filled (flat ls) ws
-after_read ws (refused r) = ws
+after_read ws (Ok ls) = filled (flat ls) ws
+after_read ws (Err r) = ws
 
 unfoldable pub read_reply : Limits → List ℕ → ℕ → Result ℕ Refusal
 read_reply limits t room = reply_read room (text_in limits t)

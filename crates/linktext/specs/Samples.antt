@@ -2,7 +2,7 @@
 --
 --   bytes s            the bytes of a written text, one for each character
 --   samples            the rows
-use Rattle.std.specs.Prelude.{List, [], ◌∷◌, ℕ}
+use Rattle.std.specs.Prelude.{List, [], ◌∷◌, ℕ, Ok, Err}
 use Prim.Native.Char.{code}
 use Prim.Native.String.{String}
 use Prim.Native.String as string
@@ -18,7 +18,7 @@ use Rattle.linktext.specs.declared.Reason.TheVariants.{Empty, NoNumber, TooLarge
 use Rattle.linktext.specs.declared.LineRead.{LineRead}
 use Rattle.linktext.specs.declared.LineRead.TheVariants.{Skip, Reads, Faulty}
 use Rattle.linktext.specs.Lines.{read_of_line}
-use Rattle.linktext.specs.Texts.{TextRead, links, refused, text_in}
+use Rattle.linktext.specs.Texts.{TextRead, text_in}
 
 unfoldable pub bytes : String → List ℕ
 bytes string.[] = []
@@ -39,8 +39,8 @@ line_said (Faulty why) = 2 ∷ reason_said why
 
 -- the link words, or number and place of the refusal
 abbrev pub text_said : TextRead → List ℕ
-text_said (links ls) = 0 ∷ flat ls
-text_said (refused r) = refusal_number r ∷ refusal_place r ∷ []
+text_said (Ok ls) = 0 ∷ flat ls
+text_said (Err r) = refusal_number r ∷ refusal_place r ∷ []
 
 abbrev pub line : String → LineRead → Example
 line t gives = row (line_said (read_of_line (bytes t))) (line_said gives)
@@ -58,8 +58,8 @@ small = record { links = 1; ases = 2; text = 14; sheet = 32 }
 unfoldable pub samples : List Example
 samples =
     -- 'text of one LF (9, line 1); empty text'
-    text base_limits "\n" (refused (Unreadable 1))
-    ∷ text base_limits "" (links [])
+    text base_limits "\n" (Err (Unreadable 1))
+    ∷ text base_limits "" (Ok [])
     -- 'AS 4,294,967,295 and 4,294,967,296'; 0 is a number
     ∷ line "4294967295|1|0" (Reads (link 4294967295 1 0))
     ∷ line "1|4294967295|0" (Reads (link 1 4294967295 0))
@@ -90,13 +90,13 @@ samples =
     ∷ line "#\0\r |ÿ" Skip
     ∷ line " #x" (Faulty (NoNumber 1))
     -- 'Lines end in LF; the last LF may be missing'; a comment ends no text
-    ∷ text base_limits "#\n1|2|0\n#x\n2|3|-1" (links (link 1 2 0 ∷ link 2 3 1 ∷ []))
-    ∷ text base_limits "1|2|0\n" (links (link 1 2 0 ∷ []))
-    ∷ text base_limits "1|2|0\n#" (links (link 1 2 0 ∷ []))
-    ∷ text base_limits "1|2|0\n\n" (refused (Unreadable 2))
+    ∷ text base_limits "#\n1|2|0\n#x\n2|3|-1" (Ok (link 1 2 0 ∷ link 2 3 1 ∷ []))
+    ∷ text base_limits "1|2|0\n" (Ok (link 1 2 0 ∷ []))
+    ∷ text base_limits "1|2|0\n#" (Ok (link 1 2 0 ∷ []))
+    ∷ text base_limits "1|2|0\n\n" (Err (Unreadable 2))
     -- '9 at the first bad line or 1 at the 1,537th readable link line', here the second; 'byte limit' first
-    ∷ text small "1|2|0\n#\n1|3|0" (refused OverLimit)
-    ∷ text small "1|2|0\n1|3|0\nx" (refused OverLimit)
-    ∷ text small "1|2|0\nx\n1|3|0" (refused (Unreadable 2))
-    ∷ text small "x\n############x" (refused OverLimit)
+    ∷ text small "1|2|0\n#\n1|3|0" (Err OverLimit)
+    ∷ text small "1|2|0\n1|3|0\nx" (Err OverLimit)
+    ∷ text small "1|2|0\nx\n1|3|0" (Err (Unreadable 2))
+    ∷ text small "x\n############x" (Err OverLimit)
     ∷ []

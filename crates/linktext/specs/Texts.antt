@@ -8,7 +8,7 @@
 --   fault_of_text limits ws  why link words are not written, if so
 --   without_comments t  the lines that are no comments, each with LF
 use Rattle.rules.specs.Replies.{Verdict}
-use Rattle.std.specs.Prelude.{ℕ, zero, suc, ◌+◌, ◌/◌, ◌%◌, cond, List, [], ◌∷◌, ◌++◌, ltb, leb, eqb, length, Err, Ok}
+use Rattle.std.specs.Prelude.{ℕ, zero, suc, ◌+◌, ◌/◌, ◌%◌, cond, List, [], ◌∷◌, ◌++◌, ltb, leb, eqb, length, Err, Ok, Result}
 use Rattle.rules.specs.declared.Link.{Link}
 use Rattle.rules.specs.declared.Limits.{Limits}
 use Rattle.rules.specs.declared.Refusal.{Refusal}
@@ -28,27 +28,26 @@ lines_of [] = []
 lines_of (c ∷ t) = cond (eqb c lf) ([] ∷ lines_of t) (onto c (lines_of t))
 
 -- what reading gives
-pub data TextRead : Type 0 where
-  links : List Link → TextRead
-  refused : Refusal → TextRead
+abbrev pub TextRead : Type 0
+TextRead = Result (List Link) Refusal
 
 abbrev pub and_link : Link → TextRead → TextRead
-and_link l (links ls) = links (l ∷ ls)
-and_link l (refused r) = refused r
+and_link l (Ok ls) = Ok (l ∷ ls)
+and_link l (Err r) = Err r
 
 -- 'lines in order, 9 at the first bad line or 1 at the 1,537th readable link line'
 abbrev pub take_line : ℕ → ℕ → ℕ → (ℕ → TextRead) → LineRead → TextRead
 take_line most n i next Skip = next n
-take_line most n i next (Reads l) = cond (leb most n) (refused OverLimit) (and_link l (next (suc n)))
-take_line most n i next (Faulty why) = refused (Unreadable i)
+take_line most n i next (Reads l) = cond (leb most n) (Err OverLimit) (and_link l (next (suc n)))
+take_line most n i next (Faulty why) = Err (Unreadable i)
 
 unfoldable pub text_read_from : ℕ → ℕ → ℕ → List (List ℕ) → TextRead
-text_read_from most n i [] = links []
+text_read_from most n i [] = Ok []
 text_read_from most n i (l ∷ ls) = take_line most n i (λ m. text_read_from most m (suc i) ls) (read_of_line l)
 
 -- 'Text in: byte limit; then lines in order'. Lines are counted from 1
 unfoldable pub text_in : Limits → List ℕ → TextRead
-text_in limits t = cond (ltb limits.text (length t)) (refused OverLimit) (text_read_from limits.links 0 1 (lines_of t))
+text_in limits t = cond (ltb limits.text (length t)) (Err OverLimit) (text_read_from limits.links 0 1 (lines_of t))
 
 -- decimal digits, of a number below 10 ^ k
 unfoldable pub digits : ℕ → ℕ → List ℕ

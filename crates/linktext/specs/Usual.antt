@@ -1,11 +1,12 @@
 -- What the quick reader has found where it is sure.
 --
 --   Stands t at f end  the bytes of t from place `at` to place `end` are f
---   Found t at room most written v end   if v is at most `most`, it is written there; within `room` bytes
+--   Found t at room most written v end   v, at most `most`, is written there; within `room` bytes
 --   Begun t at k v     k bytes from `at` on, ten at most, are the digits of v, which is no zero; ten bytes are there
 --   Four t at n        n holds the four bytes from `at` on, the first lowest, each less `0`
 --   Digits n           the four bytes of n are digits less `0`; spelled n   the number that they spell
---   Written t at l end a link whose relation is sure has its line there, with its LF at `end`
+--   FourDigits t at v  the four bytes from `at` on are digits, which spell v
+--   Written t at l end a link has its line there, with its LF at `end`
 --   Gives t at end r   the line that begins at `at` ends at `end` and gives r
 use Rattle.std.specs.Prelude.{ℕ, ◌+◌, ◌-◌, ◌*◌, ◌/◌, ◌%◌, ◌^◌, ◌≤◌, ◌<◌, ◌≡◌, List, [], ◌∷◌, ◌++◌, length, get_or, take, drop}
 use Rattle.rules.specs.declared.Link.{Link}
@@ -21,7 +22,8 @@ pub record Stands (t : List ℕ) (at : ℕ) (f : List ℕ) (end : ℕ) : Type 0 
 
 pub record Found (t : List ℕ) (at room most : ℕ) (written : ℕ → List ℕ) (v end : ℕ) : Type 0 where
   pub within : end ≤ at + room
-  pub sure : v ≤ most → Stands t at (written v) end
+  pub small : v ≤ most
+  pub stands : Stands t at (written v) end
 
 pub record Begun (t : List ℕ) (at k v : ℕ) : Type 0 where
   pub room : at + 10 ≤ length t
@@ -50,6 +52,12 @@ pub record Digits (n : ℕ) : Type 0 where
 abbrev pub spelled : ℕ → ℕ
 spelled n = 1000 * (n % 256) + 100 * (n / 256 % 256) + 10 * (n / 65536 % 256) + n / 16777216
 
+pub record FourDigits (t : List ℕ) (at v : ℕ) : Type 0 where
+  pub four : ℕ
+  pub bytes : Four t at four
+  pub digits : Digits four
+  pub value : v ≡ spelled four
+
 -- a number with its bar, a relation with its line's end
 abbrev pub field_text : ℕ → List ℕ
 field_text n = decimal n ++ (bar ∷ [])
@@ -58,8 +66,8 @@ abbrev pub end_text : ℕ → List ℕ
 end_text r = relation_text r ++ (lf ∷ [])
 
 pub record Written (t : List ℕ) (at : ℕ) (l : Link) (end : ℕ) : Type 0 where
-  pub plain : l.relation ≤ 1 → Plain l
-  pub sure : l.relation ≤ 1 → Stands t at (line_text l) (end + 1)
+  pub plain : Plain l
+  pub stands : Stands t at (line_text l) (end + 1)
 
 pub record Gives (t : List ℕ) (at end : ℕ) (r : LineRead) : Type 0 where
   pub stop : end ≡ at + place_of lf (drop at t)

@@ -1,9 +1,11 @@
-// The usual line, `digits|digits|-1` or `digits|digits|0` with its LF, read in one pass. Any other line is unsure: nothing is said of it here.
-ghost use Rattle.std.specs.Prelude.{◌≡◌, true, ◌+◌, ◌≤◌, ◌<◌, length};
+// The usual line, `digits|digits|-1` or `digits|digits|0` with its LF, read in one pass. Of any other line nothing is said here: `None`.
+//
+// Kept: (d) `text, at` stand side by side and not in a cursor struct: each step asks for another number of bytes behind `at`, so the struct would hold no fact.
+ghost use Rattle.std.specs.Prelude.{◌≡◌, true, ◌+◌, ◌≤◌, ◌<◌, length, IfSome};
 ghost use Rattle.linktext.specs.Texts.{decimal, relation_text};
-ghost use Rattle.linktext.specs.Usual.{Found, Begun, Four, Digits, spelled, field_text, end_text, Written};
+ghost use Rattle.linktext.specs.Usual.{Found, Begun, Four, FourDigits, Digits, spelled, field_text, end_text, Written};
 
-use crate::line::{BAR, MINUS, MOST, ONE, ZERO, is_digit, wide};
+use crate::line::{BAR, MINUS, ONE, ZERO};
 use rules::Link;
 
 pub const LF: u8 = b'\n';
@@ -11,50 +13,44 @@ pub const LF: u8 = b'\n';
 // The bytes of the longest usual line.
 const LONGEST: usize = 25;
 
-// A value, and the place after it. A number above the largest, and a relation above 1, is unsure.
-#[derive(Clone, Copy)]
-pub struct Step {
-    pub value: u64,
-    pub next: usize,
+// A value, and the place after it.
+#[derive(Clone, Copy, Debug, PartialEq, Eq)]
+struct Step {
+    value: u32,
+    next: usize,
 }
 
-// A link, whose relation is above 1 where it is unsure, and the place of its LF.
-#[derive(Clone, Copy)]
-pub struct Tried {
+// A link, and the place of its line's LF.
+#[derive(Clone, Copy, Debug, PartialEq, Eq)]
+pub struct UsualLine {
     pub link: Link,
     pub end: usize,
 }
 
-// The number whose first `from` digits stand at `at` and are those of `begun`, which is no zero; of at most ten digits.
-fn digits_from(text: &[u8], at: usize, from: usize, begun: u64) -> Step
-    requires { Begun text.now at from begun }
-    ensures { Found text.now at 10 4294967295 decimal result.value result.next }
-{
-    let mut v = begun;
-    let mut k = from;
-    while k < 10 {
-        let c = text[at + k];
-        if !is_digit(c) {
-            return Step {
-                value: v,
-                next: at + k,
-            };
-        }
-        v = 10 * v + wide(c - ZERO);
-        k += 1;
-    }
-    Step {
-        value: v,
-        next: at + k,
+impl Step {
+    // None of a value above 32 bits.
+    fn new(value: u64, next: usize) -> Option<Step>
+        ensures { IfSome result (λ s. (s.value ≡ value) × (s.next ≡ next)) }
+    {
+        let value = u32::try_from(value).ok()?;
+        Some(Step { value, next })
     }
 }
 
-// A byte, below 256.
-fn byte(x: u8) -> u64
-    ensures value { result ≡ x }
-    ensures small { result < 256 }
+// The number whose first `from` digits stand at `at` and are those of `begun`, which is no zero; of at most ten digits.
+fn digits_from(text: &[u8], at: usize, from: usize, begun: u64) -> Option<Step>
+    requires { Begun text.now at from begun }
+    ensures { IfSome result (λ s. Found text.now at 10 4294967295 decimal s.value s.next) }
 {
-    x as u64
+    let mut value = begun;
+    for k in from..10 {
+        let c = text[at + k];
+        if !c.is_ascii_digit() {
+            return Step::new(value, at + k);
+        }
+        value = 10 * value + u64::from(c - ZERO);
+    }
+    Step::new(value, at + 10)
 }
 
 // Four bytes in one number, the first lowest, each less `0`: 0xcfcfcfd0 is 2^32 less four of these.
@@ -62,11 +58,8 @@ fn four_from(text: &[u8], at: usize) -> u64
     requires { at + 4 ≤ length text.now }
     ensures { Four text.now at result }
 {
-    let first = byte(text[at]);
-    let second = byte(text[at + 1]);
-    let third = byte(text[at + 2]);
-    let fourth = byte(text[at + 3]);
-    (first + 256 * second + 65536 * third + 16777216 * fourth + 0xcfcfcfd0) % 0x100000000
+    let four = u32::from_le_bytes([text[at], text[at + 1], text[at + 2], text[at + 3]]);
+    (u64::from(four) + 0xcfcfcfd0) % 0x100000000
 }
 
 // Whether all four are digits: neither they nor six more than they reach 16.
@@ -78,6 +71,7 @@ fn are_digits(four: u64) -> bool
 }
 
 // What four digits spell: first two pairs, as 2561 is 10 * 256 + 1, then the whole, as 6553601 is 100 * 65536 + 1.
+#[tactic(auto, using(std::proofs::lemmas::Grind::common_steps, crate::proofs::FourLaws::four_value))]
 fn four_value(four: u64) -> u64
     requires { Digits four }
     ensures { result ≡ spelled four }
@@ -86,146 +80,114 @@ fn four_value(four: u64) -> u64
     6553601 * pairs / 65536 % 65536
 }
 
-// The number whose first four digits are those of `begun`; the next four are read at once, if there are four.
-fn rest_from(text: &[u8], at: usize, begun: u64) -> Step
-    requires { Begun text.now at 4 begun }
-    ensures { Found text.now at 10 4294967295 decimal result.value result.next }
+// What the four bytes at `at` spell, if all are digits.
+fn four_digits(text: &[u8], at: usize) -> Option<u64>
+    requires { at + 4 ≤ length text.now }
+    ensures { IfSome result (FourDigits text.now at) }
 {
-    let four = four_from(text, at + 4);
-    if !are_digits(four) {
-        return digits_from(text, at, 4, begun);
+    let four = four_from(text, at);
+    if are_digits(four) {
+        Some(four_value(four))
+    } else {
+        None
     }
-    digits_from(text, at, 8, 10000 * begun + four_value(four))
+}
+
+// The number whose first four digits are those of `begun`; the next four are read at once, if there are four.
+fn rest_from(text: &[u8], at: usize, begun: u64) -> Option<Step>
+    requires { Begun text.now at 4 begun }
+    ensures { IfSome result (λ s. Found text.now at 10 4294967295 decimal s.value s.next) }
+{
+    match four_digits(text, at + 4) {
+        Some(more) => digits_from(text, at, 8, 10000 * begun + more),
+        None => digits_from(text, at, 4, begun),
+    }
 }
 
 // The number that begins at `at`, its first four digits read at once, if there are four. After a zero it ends.
-fn number_from(text: &[u8], at: usize) -> Step
+fn number_from(text: &[u8], at: usize) -> Option<Step>
     requires { at + 10 ≤ length text.now }
-    ensures { Found text.now at 10 4294967295 decimal result.value result.next }
+    ensures { IfSome result (λ s. Found text.now at 10 4294967295 decimal s.value s.next) }
 {
     let lead = text[at];
     if lead == ZERO {
-        return Step {
+        return Some(Step {
             value: 0,
             next: at + 1,
-        };
+        });
     }
-    let four = four_from(text, at);
-    if are_digits(four) {
-        return rest_from(text, at, four_value(four));
+    if let Some(begun) = four_digits(text, at) {
+        return rest_from(text, at, begun);
     }
-    if !is_digit(lead) {
-        return Step {
-            value: MOST + 1,
-            next: at,
-        };
+    if !lead.is_ascii_digit() {
+        return None;
     }
-    digits_from(text, at, 1, wide(lead - ZERO))
+    digits_from(text, at, 1, u64::from(lead - ZERO))
 }
 
 // A number and its bar.
-fn field_from(text: &[u8], at: usize) -> Step
+fn field_from(text: &[u8], at: usize) -> Option<Step>
     requires { at + 11 ≤ length text.now }
-    ensures { Found text.now at 11 4294967295 field_text result.value result.next }
+    ensures { IfSome result (λ s. Found text.now at 11 4294967295 field_text s.value s.next) }
 {
-    let number = number_from(text, at);
-    let end = number.next;
-    let next = end + 1;
-    if text[end] != BAR {
-        return Step {
-            value: MOST + 1,
-            next,
-        };
+    let Step { value, next } = number_from(text, at)?;
+    if text[next] != BAR {
+        return None;
     }
-    Step {
-        value: number.value,
-        next,
-    }
+    Some(Step {
+        value,
+        next: next + 1,
+    })
 }
 
 // The relation that begins at `at`.
-fn relation_from(text: &[u8], at: usize) -> Step
+fn relation_from(text: &[u8], at: usize) -> Option<Step>
     requires { at + 2 ≤ length text.now }
-    ensures { Found text.now at 2 1 relation_text result.value result.next }
+    ensures { IfSome result (λ s. Found text.now at 2 1 relation_text s.value s.next) }
 {
-    let first = text[at];
-    if first == ZERO {
-        return Step {
+    match text[at] {
+        ZERO => Some(Step {
             value: 0,
             next: at + 1,
-        };
+        }),
+        MINUS if text[at + 1] == ONE => Some(Step {
+            value: 1,
+            next: at + 2,
+        }),
+        _ => None,
     }
-    if first == MINUS {
-        if text[at + 1] == ONE {
-            return Step {
-                value: 1,
-                next: at + 2,
-            };
-        }
-    }
-    Step { value: 2, next: at }
 }
 
 // A relation and its LF, whose place is the answer's.
-fn end_from(text: &[u8], at: usize) -> Step
+fn end_from(text: &[u8], at: usize) -> Option<Step>
     requires { at + 3 ≤ length text.now }
-    ensures { Found text.now at 3 1 end_text result.value (result.next + 1) }
+    ensures { IfSome result (λ s. Found text.now at 3 1 end_text s.value (s.next + 1)) }
 {
-    let relation = relation_from(text, at);
-    let end = relation.next;
-    if text[end] != LF {
-        return Step {
-            value: 2,
-            next: end,
-        };
+    let relation = relation_from(text, at)?;
+    if text[relation.next] != LF {
+        return None;
     }
-    Step {
-        value: relation.value,
-        next: end,
-    }
-}
-
-// No link, and nothing said of the line.
-fn unsure(at: usize) -> Tried
-    ensures { result.link.relation ≡ 2 }
-{
-    Tried {
-        link: Link {
-            a: 0,
-            b: 0,
-            relation: 2,
-        },
-        end: at,
-    }
+    Some(relation)
 }
 
 // The link whose usual line begins at `at`.
-pub fn quick_link(text: &[u8], at: usize) -> Tried
+pub fn quick_link(text: &[u8], at: usize) -> Option<UsualLine>
     requires { at ≤ length text.now }
-    ensures { Written text.now at result.link result.end }
+    ensures { IfSome result (λ usual. Written text.now at usual.link usual.end) }
 {
     if text.len() - at < LONGEST {
-        return unsure(at);
+        return None;
     }
-    let first = field_from(text, at);
-    if MOST < first.value {
-        return unsure(at);
-    }
-    let second = field_from(text, first.next);
-    if MOST < second.value {
-        return unsure(at);
-    }
-    let third = end_from(text, second.next);
-    if 1 < third.value {
-        return unsure(at);
-    }
+    let first = field_from(text, at)?;
+    let second = field_from(text, first.next)?;
+    let third = end_from(text, second.next)?;
     let link = Link {
-        a: first.value as u32,
-        b: second.value as u32,
-        relation: third.value as u32,
+        a: first.value,
+        b: second.value,
+        relation: third.value,
     };
-    Tried {
+    Some(UsualLine {
         link,
         end: third.next,
-    }
+    })
 }

@@ -2,17 +2,18 @@
 ghost use Rattle.std.specs.Prelude.{◌≡◌, ◌+◌, ◌*◌, ◌≤◌, ◌++◌, length, take, drop};
 ghost use Rattle.rules.specs.Checks.{base_limits};
 ghost use Rattle.linktext.specs.Texts.{lines_of, text_read_from, text_in};
-ghost use Rattle.linktext.specs.Entries.{fitted, filled, read_reply, final_words};
+ghost use Rattle.linktext.specs.Entries.{room_fault, filled, read_reply, final_words};
 ghost use Rattle.linktext.specs.Scratch.{ReadInto};
 ghost use Rattle.linktext.specs.Usual.{Gives};
 
 use crate::LineRead;
 use crate::line::{find, read_line};
 use crate::quick::{LF, quick_link};
+use network::WORDS_PER_LINK;
 use rules::{Limits, Refusal};
 
 // What a line gives, and where it ends: at its LF or with the text.
-#[derive(Clone, Copy)]
+#[derive(Clone, Copy, Debug, PartialEq, Eq)]
 struct LineAt {
     end: usize,
     read: LineRead,
@@ -33,14 +34,12 @@ fn line_at(text: &[u8], at: usize) -> LineAt
     requires { at ≤ length text.now }
     ensures { Gives text.now at result.end result.read }
 {
-    let tried = quick_link(text, at);
-    let link = tried.link;
-    if 1 < link.relation {
-        return any_line(text, at);
-    }
-    LineAt {
-        end: tried.end,
-        read: LineRead::Reads(link),
+    match quick_link(text, at) {
+        Some(usual) => LineAt {
+            end: usual.end,
+            read: LineRead::Reads(usual.link),
+        },
+        None => any_line(text, at),
     }
 }
 
@@ -50,11 +49,12 @@ fn read_lines(text: &[u8], most: usize, words: &mut [u32]) -> Result<usize, Refu
     ensures { ReadInto (text_read_from most 0 1 (lines_of text.now)) words.old words.new result }
 {
     let mut at = 0;
-    let mut line: usize = 1;
-    let mut n: usize = 0;
+    let mut line = 1;
+    let mut n = 0;
     while at < text.len() {
         let given = line_at(text, at);
         let read = given.read;
+        // Kept: (a) the enum is taken apart by `let .. else`, a form that the customers named.
         if let LineRead::Skip = read {} else {
             let LineRead::Reads(link) = read else {
                 return Err(Refusal::Unreadable(line));
@@ -79,34 +79,19 @@ pub fn read_scratch(text: &[u8], limits: Limits, words: &mut [u32]) -> Result<us
     if limits.text < text.len() {
         return Err(Refusal::OverLimit);
     }
-    let most = limits.links;
-    read_lines(text, most, words)
+    read_lines(text, limits.links, words)
 }
 
-// `from` over the first words of `to`.
-fn copy(from: &[u32], to: &mut [u32])
-    requires { length from.now ≤ length to.old }
-    ensures { to.new ≡ from.now ++ drop (length from.now) to.old }
+// The words that were read handed over, if they fit.
+fn hand_over(read: &[u32], words: &mut [u32]) -> Result<(), Refusal>
+    ensures reply { result ≡ room_fault (length words.old) (length read.now) }
+    ensures words { words.new ≡ filled read.now words.old }
 {
-    let mut i = 0;
-    while i < from.len() {
-        to[i] = from[i];
-        i += 1;
-    }
-}
-
-// The words of n links handed over, if they fit.
-fn hand_over(scratch: &[u32], n: usize, words: &mut [u32]) -> Result<usize, Refusal>
-    requires { 3 * n ≤ length scratch.now }
-    ensures reply { result ≡ fitted (length words.old) (3 * n) n }
-    ensures words { words.new ≡ filled (take (3 * n) scratch.now) words.old }
-{
-    let need = 3 * n;
-    if words.len() < need {
+    if words.len() < read.len() {
         return Err(Refusal::OutputShort);
     }
-    copy(&scratch[..need], words);
-    Ok(n)
+    words[..read.len()].copy_from_slice(read);
+    Ok(())
 }
 
 // A text read into lent words: the number of its links, or the first refusal, which leaves the words as they were.
@@ -114,10 +99,8 @@ pub fn read_text(text: &[u8], words: &mut [u32]) -> Result<usize, Refusal>
     ensures reply { result ≡ read_reply base_limits text.now (length words.old) }
     ensures words { words.new ≡ final_words base_limits text.now words.old }
 {
-    let mut scratch = [0u32; 4608];
-    let read = read_scratch(text, Limits::BASE, &mut scratch);
-    let Ok(n) = read else {
-        return read;
-    };
-    hand_over(&scratch, n, words)
+    let mut scratch = [0u32; WORDS_PER_LINK * Limits::BASE.links];
+    let n = read_scratch(text, Limits::BASE, &mut scratch)?;
+    hand_over(&scratch[..WORDS_PER_LINK * n], words)?;
+    Ok(n)
 }

@@ -1,4 +1,6 @@
 // Writing a link text: every refusal is looked at first, then the text's length, then it is written line by line.
+//
+// Kept: (a) the writing functions take `bytes, at` and answer the next place, as the public `put_number` does; no cursor struct.
 ghost use Rattle.std.specs.Prelude.{◌≡◌, ◌∷◌, [], ◌++◌, ◌+◌, ◌*◌, ◌<◌, ◌≤◌, length};
 ghost use Rattle.std.proofs.lemmas.List.Edits.{sets};
 ghost use Rattle.rules.specs.Network.{links_of};
@@ -8,32 +10,28 @@ ghost use Rattle.linktext.specs.Texts.{decimal, relation_text, line_text, text_o
 ghost use Rattle.linktext.specs.Entries.{fitted, filled, write_reply, final_bytes};
 ghost use Rattle.linktext.specs.Stored.{Stored};
 
+use crate::line::{BAR, MINUS, ONE, ZERO};
+use crate::quick::LF;
+use network::WORDS_PER_LINK;
 use rules::{Limits, Link, Refusal};
 
-// Refusal 3 at the first link whose relation is not 0 or 1.
+// Refused at the first link whose relation is not 0 or 1.
 fn relation_fault(words: &[u32]) -> Result<(), Refusal>
     ensures { result ≡ fault_of_relations 0 (links_of words.now) }
 {
-    let m = words.len() / 3;
-    let mut i = 0;
-    while i < m {
-        let l = network::link_at(words, i);
-        if 1 < l.relation {
+    for i in 0..words.len() / WORDS_PER_LINK {
+        if 1 < network::link_at(words, i).relation {
             return Err(Refusal::NoRelation(i));
         }
-        i += 1;
     }
     Ok(())
 }
 
-// Refusals 1 and 3.
+// Over the limit if the words are no whole links or too many links; then a link's relation.
 fn text_fault(words: &[u32], limits: Limits) -> Result<(), Refusal>
     ensures { result ≡ fault_of_text limits words.now }
 {
-    if words.len() % 3 != 0 {
-        return Err(Refusal::OverLimit);
-    }
-    if limits.links < words.len() / 3 {
+    if words.len() % WORDS_PER_LINK != 0 || limits.links < words.len() / WORDS_PER_LINK {
         return Err(Refusal::OverLimit);
     }
     relation_fault(words)
@@ -43,13 +41,7 @@ fn text_fault(words: &[u32], limits: Limits) -> Result<(), Refusal>
 fn digit_count(n: u32) -> usize
     ensures { result ≡ length (decimal n) }
 {
-    let mut left = n;
-    let mut count: usize = 1;
-    while 9 < left {
-        left = left / 10;
-        count += 1;
-    }
-    count
+    n.max(1).ilog10() as usize + 1
 }
 
 // How many bytes a relation has.
@@ -74,22 +66,11 @@ fn text_length(words: &[u32]) -> usize
     requires { 25 * length (links_of words.now) < 18446744073709551616 }
     ensures { result ≡ length (text_of (links_of words.now)) }
 {
-    let m = words.len() / 3;
-    let mut total: usize = 0;
-    let mut i = 0;
-    while i < m {
+    let mut total = 0;
+    for i in 0..words.len() / WORDS_PER_LINK {
         total += line_length(network::link_at(words, i));
-        i += 1;
     }
     total
-}
-
-// The sign of a digit.
-fn digit(d: u32) -> u8
-    requires { d < 10 }
-    ensures { result ≡ 48 + d }
-{
-    (48 + d) as u8
 }
 
 // Writes a number from byte `at` on, its last digit first, and answers the byte after it.
@@ -98,14 +79,11 @@ pub fn put_number(bytes: &mut [u8], at: usize, n: u32) -> usize
     ensures { Stored bytes.old at (decimal n) bytes.new result }
 {
     let end = at + digit_count(n);
-    let mut p = end - 1;
     let mut left = n;
-    while 9 < left {
-        bytes[p] = digit(left % 10);
-        left = left / 10;
-        p -= 1;
+    for place in (at..end).rev() {
+        bytes[place] = ZERO + (left % 10) as u8;
+        left /= 10;
     }
-    bytes[p] = digit(left);
     end
 }
 
@@ -115,7 +93,7 @@ fn put_field(bytes: &mut [u8], at: usize, n: u32) -> usize
     ensures { Stored bytes.old at (decimal n ++ (bar ∷ [])) bytes.new result }
 {
     let end = put_number(bytes, at, n);
-    bytes[end] = b'|';
+    bytes[end] = BAR;
     end + 1
 }
 
@@ -125,13 +103,13 @@ fn put_end(bytes: &mut [u8], at: usize, relation: u32) -> usize
     ensures { Stored bytes.old at (relation_text relation ++ (lf ∷ [])) bytes.new result }
 {
     if relation == 1 {
-        bytes[at] = b'-';
-        bytes[at + 1] = b'1';
-        bytes[at + 2] = b'\n';
+        bytes[at] = MINUS;
+        bytes[at + 1] = ONE;
+        bytes[at + 2] = LF;
         return at + 3;
     }
-    bytes[at] = b'0';
-    bytes[at + 1] = b'\n';
+    bytes[at] = ZERO;
+    bytes[at + 1] = LF;
     at + 2
 }
 
@@ -150,12 +128,9 @@ fn put_text(words: &[u32], bytes: &mut [u8])
     requires { length (text_of (links_of words.now)) ≤ length bytes.old }
     ensures { bytes.new ≡ sets bytes.old 0 (text_of (links_of words.now)) }
 {
-    let m = words.len() / 3;
-    let mut at: usize = 0;
-    let mut i = 0;
-    while i < m {
+    let mut at = 0;
+    for i in 0..words.len() / WORDS_PER_LINK {
         at = put_line(bytes, at, network::link_at(words, i));
-        i += 1;
     }
 }
 
@@ -179,10 +154,8 @@ fn write_within(words: &[u32], bytes: &mut [u8], limits: Limits) -> Result<usize
     ensures reply { result ≡ write_reply limits words.now (length bytes.old) }
     ensures after { bytes.new ≡ final_bytes limits words.now bytes.old }
 {
-    match text_fault(words, limits) {
-        Err(why) => Err(why),
-        Ok(()) => write_fitting(words, bytes),
-    }
+    text_fault(words, limits)?;
+    write_fitting(words, bytes)
 }
 
 // The text of a list of link words, a line for each link: the number of its bytes, or a refusal, which leaves the bytes as they were.

@@ -1,11 +1,16 @@
-use Rattle.std.proofs.Common.{◌+◌, ◌*◌, arith, drop}
-use Rattle.linktext.proofs.NumberLaws.{value_next, value_grows, capped_over}
-use Rattle.linktext.specs.Lines.{value_from}
+use Rattle.std.proofs.Common.{arith, ◌∙◌}
+use Rattle.linktext.proofs.NumberLaws.{too_large, value_whole}
 use Rattle.linktext.proofs.line.value.Goals as goal
 
-pub returns-then-v-gt-MOST : goal.returns-then-v-gt-MOST
-returns-then-v-gt-MOST c =
-    let l = c.loop-i in
-    let t = c.args.field.now in
-    let whole = value_next t l.v l.i _ _ c.loop-i-test.true c.wide.ensures l.invariant.2 in
-    capped_over 4294967295 (value_from 0 t) (omega (arith, value_grows (drop (l.i + 1) t) (10 * l.v + c.wide.result)))
+pub returns-in_err-checked_mul : goal.returns-in_err-checked_mul
+returns-in_err-checked_mul c =
+    let l = c.loop-digit in
+    c.from_residual.ensures ∙ too_large c.args.field.now l.value l.digit-index c.loop-digit-test.true (omega (arith, c.in_err-checked_mul.ensures)) l.invariant.1
+
+pub returns-in_err-value : goal.returns-in_err-value
+returns-in_err-value c =
+    let l = c.loop-digit in
+    c.from_residual-in_err-value.ensures ∙ too_large c.args.field.now l.value l.digit-index c.loop-digit-test.true (omega (arith, c.in_err-value.ensures)) l.invariant.1
+
+pub returns : goal.returns
+returns c = let l = c.loop-digit in value_whole c.args.field.now l.value l.digit-index (omega arith) (omega arith) l.invariant.1

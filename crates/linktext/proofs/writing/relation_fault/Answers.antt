@@ -7,10 +7,8 @@ pub loop-i-preserved : goal.loop-i-preserved
 loop-i-preserved c =
     let l = c.loop-i in
     let ws = c.args.words.now in
-    let small : (link_in_words ws l.i).relation ≤ 1 = rw c.link_at-l.ensures at c.if-l-gt1.false in
-    (omega arith, sym (fault_later ws l.i (omega arith) small) ∙ l.invariant.1)
+    let small : (link_in_words ws l.i).relation ≤ 1 = rw c.link_at.ensures at c.if-link_at-gt1.false in
+    sym (fault_later ws l.i (omega arith) small) ∙ l.invariant
 
 pub returns : goal.returns
-returns c =
-    let l = c.loop-i in
-    sym (fault_none c.args.words.now l.i (omega arith)) ∙ l.invariant.1
+returns c = sym (fault_none c.args.words.now c.loop-i.i (omega arith)) ∙ c.loop-i.invariant

@@ -8,17 +8,12 @@ use Rattle.linktext.proofs.writing.text_length.Goals as goal
 
 pub overflow_add-total : goal.overflow_add-total
 overflow_add-total c =
-    let l = c.loop-i in
     let ws = c.args.words.now in
-    omega (arith, (c.line_length-total.ensures ∙ ap (λ (k : Link). length (line_text k)) c.link_at.ensures), length_next ws l.i (omega arith), text_bound (links_of ws))
+    omega (arith, c.line_length-total.ensures ∙ ap (λ (k : Link). length (line_text k)) c.link_at.ensures, length_next ws c.loop-i.i (omega arith), text_bound (links_of ws))
 
 pub loop-i-preserved : goal.loop-i-preserved
 loop-i-preserved c =
-    let l = c.loop-i in
-    let ws = c.args.words.now in
-    omega (arith, (c.line_length-total.ensures ∙ ap (λ (k : Link). length (line_text k)) c.link_at.ensures), length_next ws l.i (omega arith))
+    omega (arith, c.line_length-total.ensures ∙ ap (λ (k : Link). length (line_text k)) c.link_at.ensures, length_next c.args.words.now c.loop-i.i (omega arith))
 
 pub returns : goal.returns
-returns c =
-    let ws = c.args.words.now in
-    omega (arith, ap length (text_none ws c.loop-i.i (omega arith)))
+returns c = omega (arith, ap length (text_none c.args.words.now c.loop-i.i (omega arith)))

@@ -1,12 +1,9 @@
--- `text_length` adds up the lines' lengths: the sum and the length of the text from link i on are the whole length.
-use Rattle.std.proofs.Common.{◌≡◌, ◌+◌, ◌-◌, ◌/◌, ◌≤◌, length}
+-- The sum so far and the length of the text from link i on are the whole length.
+use Rattle.std.proofs.Common.{◌≡◌, ◌+◌, length}
 use Rattle.linktext.specs.Texts.{text_of}
 use Rattle.network.specs.Prefix.{links_from}
 use Rattle.rules.specs.Network.{links_of}
 use Rattle.linktext.proofs.writing.text_length.Given as goal
 
 abbrev pub invariant-loop-i : goal.invariant-loop-i
-invariant-loop-i l = (l.i ≤ length l.words / 3) × (l.total + length (text_of (links_from l.words l.i)) ≡ length (text_of (links_of l.words)))
-
-abbrev pub decreases-loop-i : goal.decreases-loop-i
-decreases-loop-i l = length l.words / 3 - l.i
+invariant-loop-i l = l.total + length (text_of (links_from l.words l.i)) ≡ length (text_of (links_of l.words))
