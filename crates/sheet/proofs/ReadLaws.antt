@@ -1,12 +1,12 @@
 -- What the reader answers and leaves in the table, by its verdict; and one turn of the loop that reads lines, after which what is written
 -- is one line longer.
 use Prim.Native.Nat.{ℕ, ◌+◌, ◌*◌, ◌≤◌}
-use mathlib.Core.Path.{◌≡◌, sym, ap, ap₂, ◌∙◌}
+use mathlib.Core.Path.{◌≡◌, refl, sym, ap, ap₂, ◌∙◌}
 use mathlib.Core.List.{List, [], ◌∷◌}
 use native.Mathlib.Omega.{arith}
 use lib.Dec.{leb}
 use lib.ListN.{length, drop}
-use lib.Seq.{sets}
+use lib.Seq.{sets, length-sets}
 use Rattle.rules.specs.declared.Limits.{Limits}
 use Rattle.rules.specs.declared.Refusal.{Refusal}
 use Rattle.rules.specs.declared.Refusal.TheVariants.{OverLimit}
@@ -53,19 +53,31 @@ read_accepted limits s words after d n e pd pn pa =
     let r = read_passes limits s words e in
     (ap₂ read.Lines pd pn ∙ sym r.0, pa ∙ ap (λ (k : ℕ). over (words_of (lines_from k (drop 10 s))) words) pn ∙ sym r.1)
 
--- one line more
-pub read_more : (s old table after : List ℕ) (i : ℕ) (e : Entry) → table ≡ sets old 0 (words_of (lines_from i (drop 10 s))) → e ≡ entry_line s i
-    → after ≡ sets table (4 * i) (words_of (e ∷ [])) → after ≡ sets old 0 (words_of (lines_from (i + 1) (drop 10 s)))
-read_more s old table after i e before line store =
+-- the table with the first i lines written
+unfoldable pub table_to : List ℕ → List ℕ → ℕ → List ℕ
+table_to s old i = sets old 0 (words_of (lines_from i (drop 10 s)))
+
+pub table_to-none : (s old : List ℕ) → table_to s old 0 ≡ old
+unfolding table_to lines_from words_of
+table_to-none s old = refl
+
+pub length-table_to : (s old : List ℕ) (i : ℕ) → length (table_to s old i) ≡ length old
+unfolding table_to
+length-table_to s old i = length-sets old 0 (words_of (lines_from i (drop 10 s)))
+
+pub table_to-next : (s old : List ℕ) (i : ℕ) → table_to s old (i + 1) ≡ sets (table_to s old i) (4 * i) (words_of (entry_line s i ∷ []))
+unfolding table_to
+table_to-next s old i =
     let lines = lines_from i (drop 10 s) in
     let at : 0 + length (words_of lines) ≡ 4 * i = omega (arith, length_words lines, length-lines_from i (drop 10 s)) in
-    store
-    ∙ rw (before, line)
-    (sets-append (words_of lines) (words_of (entry_line s i ∷ [])) old 0 (4 * i) at
-    ∙ ap (sets old 0) (sym (words_append lines (entry_line s i ∷ [])) ∙ ap words_of (sym (lines_more i s))))
+    ap (λ (es : List Entry). sets old 0 (words_of es)) (lines_more i s)
+    ∙ ap (sets old 0) (words_append lines (entry_line s i ∷ []))
+    ∙ sym (sets-append (words_of lines) (words_of (entry_line s i ∷ [])) old 0 (4 * i) at)
 
-pub read_all : (s old table : List ℕ) (n : ℕ) → 4 * n ≤ length old → table ≡ sets old 0 (words_of (lines_from n (drop 10 s)))
-    → table ≡ over (words_of (lines_from n (drop 10 s))) old
-read_all s old table n h e =
+pub table_to-all : (s old : List ℕ) (n : ℕ) → 4 * n ≤ length old → table_to s old n ≡ over (words_of (lines_from n (drop 10 s))) old
+unfolding table_to
+table_to-all s old n h =
     let lines = lines_from n (drop 10 s) in
-    e ∙ sets_front (words_of lines) old (omega (arith, length_words lines, length-lines_from n (drop 10 s)))
+    sets_front (words_of lines) old (omega (arith, length_words lines, length-lines_from n (drop 10 s)))
+
+pub ruleset table_steps = (table_to-none, length-table_to, table_to-next, table_to-all)

@@ -49,20 +49,34 @@ standing_Fits bound i (u ∷ us) (a ∷ t ∷ l ∷ n ∷ ws) b w h =
     )
 
 -- the check from line i on
-abbrev pub standing_at : ℕ → List ℕ → List ℕ → ℕ → Verdict
+unfoldable pub standing_at : ℕ → List ℕ → List ℕ → ℕ → Verdict
 standing_at bound us ws i = standing_from bound i (drop i us) (entries_of (drop (4 * i) ws))
 
--- .. by what line i gives
-pub standing_next : (bound : ℕ) (us ws : List ℕ) (i : ℕ) (e : Entry) (r : Bool) → i < length us → 4 * i + 4 ≤ length ws → e ≡ entry_at ws i
-    → r ≡ stands bound (get_or us i 0) e → standing_at bound us ws i ≡ cond r (standing_at bound us ws (i + 1)) (Refused (CannotStand i))
-unfolding standing_from
-standing_next bound us ws i e r h g line test = rw (drop-cons us i 0 h, entries_next ws i g, add-one i, test, line)
+pub standing_at-all : (bound : ℕ) (us ws : List ℕ) → standing_at bound us ws 0 ≡ standing bound us (entries_of ws)
+unfolding standing_at
+standing_at-all bound us ws = refl
 
-pub standing_end : (bound : ℕ) (us ws : List ℕ) (i : ℕ) → length us ≤ i → length ws < 4 * i + 4 → standing_at bound us ws i ≡ Passes
-unfolding standing_from
-standing_end bound us ws i h g =
+-- .. by what line i gives
+line_stands : (bound : ℕ) (us ws : List ℕ) (i : ℕ) → i < length us → 4 * i + 4 ≤ length ws
+    → standing_at bound us ws i ≡ cond (stands bound (get_or us i 0) (entry_at ws i)) (standing_at bound us ws (i + 1)) (Refused (CannotStand i))
+unfolding standing_at standing_from
+line_stands bound us ws i h g = rw (drop-cons us i 0 h, entries_next ws i g, add-one i)
+
+pub standing_at-next : (bound : ℕ) (us ws : List ℕ) (i : ℕ) → i < length us → 4 * i + 4 ≤ length ws → stands bound (get_or us i 0) (entry_at ws i) ≡ true
+    → standing_at bound us ws i ≡ standing_at bound us ws (i + 1)
+standing_at-next bound us ws i h g e = rw e at (line_stands bound us ws i h g)
+
+pub standing_at-refused : (bound : ℕ) (us ws : List ℕ) (i : ℕ) → i < length us → 4 * i + 4 ≤ length ws → stands bound (get_or us i 0) (entry_at ws i) ≡ false
+    → standing_at bound us ws i ≡ Refused (CannotStand i)
+standing_at-refused bound us ws i h g e = rw e at (line_stands bound us ws i h g)
+
+pub standing_at-end : (bound : ℕ) (us ws : List ℕ) (i : ℕ) → length us ≤ i → length ws < 4 * i + 4 → standing_at bound us ws i ≡ Passes
+unfolding standing_at standing_from
+standing_at-end bound us ws i h g =
     let few : length (drop (4 * i) ws) < 4 = simp length-drop (omega arith) in
     rw (drop_of_length-le us h, entries_few (drop (4 * i) ws) few)
+
+pub ruleset standing_steps = (standing_at-all, standing_at-next, standing_at-refused, standing_at-end)
 
 -- 'Missing or surplus lines: place is the shorter count'
 pub standing_shorter : (bound i k : ℕ) (us : List ℕ) (es : List Entry) → k ≡ min (length us) (length es) → length us ≢ length es

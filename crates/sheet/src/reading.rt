@@ -37,7 +37,7 @@ fn length_fault(before: Verdict, sheet: &[u8]) -> Verdict
     if sheet.len() < HEAD_BYTES {
         return Verdict::Refused(Refusal::BrokenForm(sheet.len()));
     }
-    let size = numbers::word2(sheet, 8) as usize;
+    let size = usize::from(numbers::word2(sheet, 8));
     if size % BYTES_PER_LINE == 0 {
         if size == sheet.len() - HEAD_BYTES {
             return Verdict::Passes;
@@ -70,7 +70,7 @@ pub fn line_count(sheet: &[u8]) -> usize
     requires { 10 ≤ length sheet.now }
     ensures { result ≡ count_of_lines sheet.now }
 {
-    numbers::word2(sheet, 8) as usize / BYTES_PER_LINE
+    usize::from(numbers::word2(sheet, 8)) / BYTES_PER_LINE
 }
 
 // Line i.
@@ -81,22 +81,20 @@ pub(crate) fn line_at(sheet: &[u8], i: usize) -> Row
     let at = HEAD_BYTES + BYTES_PER_LINE * i;
     Row {
         number: numbers::word4(sheet, at),
-        typ: numbers::byte(sheet, at + 4),
-        length: numbers::word2(sheet, at + 5) as u32,
+        typ: u32::from(sheet[at + 4]),
+        length: u32::from(numbers::word2(sheet, at + 5)),
         next: numbers::word4(sheet, at + 7),
     }
 }
 
 // The first n lines as table words. The other words stay.
+#[tactic(auto, using(std::proofs::lemmas::Grind::common_steps, crate::proofs::ReadLaws::table_steps))]
 pub fn read_lines(sheet: &[u8], n: usize, table: &mut [u32])
     requires { (10 + 11 * n ≤ length sheet.now) × (4 * n ≤ length table.old) }
     ensures { table.new ≡ over (words_of (lines_from n (drop 10 sheet.now))) table.old }
 {
-    let mut i = 0;
-    while i < n {
-        let row = line_at(sheet, i);
-        rows::put_row(table, i, row);
-        i += 1;
+    for i in 0..n {
+        rows::put_row(table, i, line_at(sheet, i));
     }
 }
 

@@ -8,7 +8,7 @@ ghost use Rattle.sheet.specs.Places.{entry_of, entry_at};
 pub const WORDS_PER_LINE: usize = 4;
 
 // A line of a table or a sheet.
-#[derive(Clone, Copy)]
+#[derive(Clone, Copy, Debug, PartialEq, Eq)]
 pub struct Row {
     pub number: u32,
     pub typ: u32,
@@ -21,8 +21,8 @@ impl Row {
     pub(crate) fn stands(self, u: u32, bound: u32) -> bool
         ensures { result ≡ stands bound u (entry_of self) }
     {
-        let lost = (self.typ == 4) & (0 < self.length);
-        (self.number == u) & (1 <= self.typ) & (self.typ <= 4) & !lost & (self.length <= bound)
+        let lost = self.typ == 4 && self.length > 0;
+        self.number == u && (1..=4).contains(&self.typ) && !lost && self.length <= bound
     }
 }
 

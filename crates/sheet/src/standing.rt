@@ -25,20 +25,18 @@ pub(crate) fn destination_fault(ases: &[u32], destination: u32) -> Verdict
 pub fn shorter(n: usize, m: usize) -> usize
     ensures { result ≡ min n m }
 {
-    if n < m { n } else { m }
+    n.min(m)
 }
 
+#[tactic(auto, using(std::proofs::lemmas::Grind::common_steps, crate::proofs::StandingLaws::standing_steps))]
 // Refusal 11 of a table of as many lines as there are ASes: the lowest line that cannot stand.
 pub fn lines_fault(ases: &[u32], table: &[u32], bound: u32) -> Verdict
     requires { length table.now ≡ 4 * length ases.now }
     ensures { result ≡ standing bound ases.now (entries_of table.now) }
 {
-    let mut i = 0;
-    while i < ases.len() {
+    for (i, u) in ases.iter().enumerate() {
         let row = rows::row_at(table, i);
-        if row.stands(ases[i], bound) {
-            i += 1;
-        } else {
+        if !row.stands(*u, bound) {
             return Verdict::Refused(Refusal::CannotStand(i));
         }
     }

@@ -12,7 +12,7 @@ use super::{BYTES_PER_LINE, HEAD_BYTES, numbers, rows, standing};
 use rules::{Checked, Refusal, Verdict};
 
 // The ten bytes before lines of so many bytes.
-fn put_head(bytes: &mut [u8], destination: u32, size: u32)
+fn put_head(bytes: &mut [u8], destination: u32, size: u16)
     requires { 10 ≤ length bytes.old }
     ensures { bytes.new ≡ sets bytes.old 0 (head_of destination size) }
 {
@@ -31,21 +31,18 @@ fn put_line(bytes: &mut [u8], at: usize, row: Row)
 {
     numbers::put4(bytes, at, row.number);
     bytes[at + 4] = (row.typ % 256) as u8;
-    numbers::put2(bytes, at + 5, row.length);
+    numbers::put2(bytes, at + 5, (row.length % 65536) as u16);
     numbers::put4(bytes, at + 7, row.next);
 }
 
 // The lines of a table, from byte 10 on.
+#[tactic(auto, using(std::proofs::lemmas::Grind::common_steps, crate::proofs::RunLaws::lines_steps))]
 fn put_lines(bytes: &mut [u8], table: &[u32])
     requires { 10 + 11 * (length table.now / 4) ≤ length bytes.old }
     ensures { bytes.new ≡ sets bytes.old 10 (lines_bytes (entries_of table.now)) }
 {
-    let n = table.len() / WORDS_PER_LINE;
-    let mut i = 0;
-    while i < n {
-        let row = rows::row_at(table, i);
-        put_line(bytes, HEAD_BYTES + BYTES_PER_LINE * i, row);
-        i += 1;
+    for i in 0..table.len() / WORDS_PER_LINE {
+        put_line(bytes, HEAD_BYTES + BYTES_PER_LINE * i, rows::row_at(table, i));
     }
 }
 
@@ -55,7 +52,7 @@ pub fn put_sheet(bytes: &mut [u8], destination: u32, table: &[u32])
     ensures { bytes.new ≡ over (sheet_of destination (entries_of table.now)) bytes.old }
 {
     let size = BYTES_PER_LINE * (table.len() / WORDS_PER_LINE);
-    put_head(bytes, destination, size as u32);
+    put_head(bytes, destination, size as u16);
     put_lines(bytes, table);
 }
 
