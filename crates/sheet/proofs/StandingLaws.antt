@@ -1,6 +1,6 @@
 -- What it says of lines that they all stand, and the check by the shorter count. By cases on the two lists side by side.
 use Prim.Native.Nat.{ℕ, zero, suc, ◌+◌, ◌*◌, ◌/◌, ◌≤◌, ◌<◌, min}
-use mathlib.Core.Path.{◌≡◌, refl, ap}
+use mathlib.Core.Path.{◌≡◌, refl, ap, ◌∙◌}
 use mathlib.Core.Logic.{◌≢◌}
 use mathlib.Core.Bool.{Bool, true, false, cond}
 use mathlib.Core.List.{List, [], ◌∷◌}
@@ -10,10 +10,12 @@ use native.Mathlib.Omega.{arith}
 use lib.Dec.{eqb}
 use lib.ListN.{length, get_or, take, drop, length-drop, drop_of_length-le}
 use lib.Seq.{drop-cons, take_all}
-use borrow.Author.Tests.{eqb-true, eqb-false, ne_eqb}
+use borrow.Author.Tests.{eqb-true, eqb-false, eq-eqb, ne_eqb}
+use Rattle.std.specs.Prelude.{Err, Ok, Option, Some, None}
+use Rattle.network.specs.Promises.{Stands}
+use Rattle.rules.specs.Replies.{Verdict}
+use Rattle.rules.specs.declared.Refusal.{Refusal}
 use Rattle.rules.specs.declared.Refusal.TheVariants.{NoDestination, CannotStand}
-use Rattle.rules.specs.declared.Verdict.{Verdict}
-use Rattle.rules.specs.declared.Verdict.TheVariants.{Passes, Refused}
 use Rattle.rules.specs.Entry.{and_then, unless, fault_of_destination}
 use Rattle.rules.specs.Judge.{Entry, entry, entries_of, stands, standing_from, standing}
 use Rattle.rules.proofs.Tests.{clash}
@@ -25,7 +27,7 @@ use Rattle.sheet.specs.Places.{entry_at}
 use Rattle.sheet.specs.Sizes.{Below, Fits}
 use Rattle.sheet.specs.Entries.{fault_of_table}
 
-pub same_count : (bound i : ℕ) (us : List ℕ) (es : List Entry) → standing_from bound i us es ≡ Passes → length es ≡ length us
+pub same_count : (bound i : ℕ) (us : List ℕ) (es : List Entry) → standing_from bound i us es ≡ Ok tt → length es ≡ length us
 unfolding standing_from
 same_count bound i [] [] h = refl
 same_count bound i [] (e ∷ es) h = cc
@@ -34,7 +36,7 @@ same_count bound i (u ∷ us) (e ∷ es) h =
     ap suc (same_count bound (suc i) us es (test_passes (stands bound u e) _ _ h).1)
 
 -- lines that stand, of words of 32 bits, fit a sheet
-pub standing_Fits : (bound i : ℕ) (us ws : List ℕ) → bound < 65536 → Below 4294967296 ws → standing_from bound i us (entries_of ws) ≡ Passes → Fits (entries_of ws)
+pub standing_Fits : (bound i : ℕ) (us ws : List ℕ) → bound < 65536 → Below 4294967296 ws → standing_from bound i us (entries_of ws) ≡ Ok tt → Fits (entries_of ws)
 unfolding standing_from entries_of
 standing_Fits bound i us [] b w h = tt
 standing_Fits bound i us (a ∷ []) b w h = tt
@@ -58,7 +60,7 @@ standing_at-all bound us ws = refl
 
 -- .. by what line i gives
 line_stands : (bound : ℕ) (us ws : List ℕ) (i : ℕ) → i < length us → 4 * i + 4 ≤ length ws
-    → standing_at bound us ws i ≡ cond (stands bound (get_or us i 0) (entry_at ws i)) (standing_at bound us ws (i + 1)) (Refused (CannotStand i))
+    → standing_at bound us ws i ≡ cond (stands bound (get_or us i 0) (entry_at ws i)) (standing_at bound us ws (i + 1)) (Err (CannotStand i))
 unfolding standing_at standing_from
 line_stands bound us ws i h g = rw (drop-cons us i 0 h, entries_next ws i g, add-one i)
 
@@ -67,10 +69,10 @@ pub standing_at-next : (bound : ℕ) (us ws : List ℕ) (i : ℕ) → i < length
 standing_at-next bound us ws i h g e = rw e at (line_stands bound us ws i h g)
 
 pub standing_at-refused : (bound : ℕ) (us ws : List ℕ) (i : ℕ) → i < length us → 4 * i + 4 ≤ length ws → stands bound (get_or us i 0) (entry_at ws i) ≡ false
-    → standing_at bound us ws i ≡ Refused (CannotStand i)
+    → standing_at bound us ws i ≡ Err (CannotStand i)
 standing_at-refused bound us ws i h g e = rw e at (line_stands bound us ws i h g)
 
-pub standing_at-end : (bound : ℕ) (us ws : List ℕ) (i : ℕ) → length us ≤ i → length ws < 4 * i + 4 → standing_at bound us ws i ≡ Passes
+pub standing_at-end : (bound : ℕ) (us ws : List ℕ) (i : ℕ) → length us ≤ i → length ws < 4 * i + 4 → standing_at bound us ws i ≡ Ok tt
 unfolding standing_at standing_from
 standing_at-end bound us ws i h g =
     let few : length (drop (4 * i) ws) < 4 = simp length-drop (omega arith) in
@@ -80,7 +82,7 @@ pub ruleset standing_steps = (standing_at-all, standing_at-next, standing_at-ref
 
 -- 'Missing or surplus lines: place is the shorter count'
 pub standing_shorter : (bound i k : ℕ) (us : List ℕ) (es : List Entry) → k ≡ min (length us) (length es) → length us ≢ length es
-    → standing_from bound i us es ≡ and_then (standing_from bound i (take k us) (take k es)) (Refused (CannotStand (i + k)))
+    → standing_from bound i us es ≡ and_then (standing_from bound i (take k us) (take k es)) (Err (CannotStand (i + k)))
 unfolding standing_from
 standing_shorter bound i zero [] [] h ne = absurd (ne refl)
 standing_shorter bound i zero [] (e ∷ es) h ne = rw (add-zero i)
@@ -93,9 +95,9 @@ standing_shorter bound i (suc k) (u ∷ us) (e ∷ es) h ne =
     let rest = standing_shorter bound (suc i) k us es (omega arith) (λ q. ne (ap suc q)) in
     go (stands bound u e) (rw place at rest)
   where
-    go : (t : Bool) → standing_from bound (suc i) us es ≡ and_then (standing_from bound (suc i) (take k us) (take k es)) (Refused (CannotStand (i + suc k)))
-        → cond t (standing_from bound (suc i) us es) (Refused (CannotStand i))
-        ≡ and_then (cond t (standing_from bound (suc i) (take k us) (take k es)) (Refused (CannotStand i))) (Refused (CannotStand (i + suc k)))
+    go : (t : Bool) → standing_from bound (suc i) us es ≡ and_then (standing_from bound (suc i) (take k us) (take k es)) (Err (CannotStand (i + suc k)))
+        → cond t (standing_from bound (suc i) us es) (Err (CannotStand i))
+        ≡ and_then (cond t (standing_from bound (suc i) (take k us) (take k es)) (Err (CannotStand i))) (Err (CannotStand (i + suc k)))
     go true r = r
     go false r = refl
 
@@ -119,11 +121,29 @@ table_in_order bound us ws k h = rw (entries_take k ws) (go (eqb (length us) (le
         let place : 0 + k ≡ k = omega arith in
         let short = standing_shorter bound 0 k us es (omega (arith, length_entries ws)) (eqb-false (length us) (length es) e) in
         let wrong = ne_eqb (length ws) (4 * length us) (λ q. eqb-false (length us) (length es) e (omega (arith, length_entries ws))) in
-        rw (short, wrong, place) (then_assoc (standing bound (take k us) (take k es)) (Refused (CannotStand k)) _)
+        rw (short, wrong, place) (then_assoc (standing bound (take k us) (take k es)) (Err (CannotStand k)) _)
+
+-- .. as the writer finds it
+module _ (bound : ℕ) (us ws : List ℕ) (k : ℕ) (h : k ≡ min (length us) (length ws / 4)) where
+  pub table_refused : (r : Refusal) → standing bound (take k us) (entries_of (take (4 * k) ws)) ≡ Err r → fault_of_table bound us ws ≡ Err r
+  table_refused r e = table_in_order bound us ws k h ∙ rw e
+
+  pub table_stands : standing bound (take k us) (entries_of (take (4 * k) ws)) ≡ Ok tt → length ws ≡ 4 * length us → fault_of_table bound us ws ≡ Ok tt
+  table_stands e whole = table_in_order bound us ws k h ∙ rw (e, eq-eqb (length ws) (4 * length us) whole)
+
+  pub table_short : standing bound (take k us) (entries_of (take (4 * k) ws)) ≡ Ok tt → length ws ≢ 4 * length us → fault_of_table bound us ws ≡ Err (CannotStand k)
+  table_short e other = table_in_order bound us ws k h ∙ rw (e, ne_eqb (length ws) (4 * length us) other)
+
+pub ruleset table_order = (table_refused, table_stands, table_short)
 
 -- the destination's place, or none, in the list of ASes
-pub destination_there : (d i : ℕ) (us : List ℕ) → i < length us → get_or us i 0 ≡ d → Passes ≡ fault_of_destination d us
-destination_there d i us h e = rw (member_yes d us (rw e at (at_in 0 us i h)))
+module _ (d : ℕ) (us : List ℕ) (p : Option ℕ) (h : Stands us (length us) d p) where
+  pub destination_there : (i : ℕ) → p ≡ Some i → (fault_of_destination d us ≡ Ok tt) × (i < length us) × (get_or us i 0 ≡ d)
+  destination_there i e =
+      let s = rw e at h in
+      (rw (member_yes d us (rw s.1 at (at_in 0 us i s.0))), s.0, s.1)
 
-pub destination_none : (d : ℕ) (us : List ℕ) → ((i : ℕ) → i < length us → get_or us i 0 ≢ d) → Refused NoDestination ≡ fault_of_destination d us
-destination_none d us none = rw (member_no d us (λ m. (let (i, h, e) = in_at 0 us d m in none i h e)))
+  pub destination_none : p ≡ None → fault_of_destination d us ≡ Err NoDestination
+  destination_none e =
+      let s = rw e at h in
+      rw (member_no d us (λ m. (let (i, b, q) = in_at 0 us d m in s i b q)))

@@ -1,7 +1,5 @@
 // A sheet read: its form, its numbers at their places, its lines as table words.
-ghost use Rattle.std.specs.Prelude.{◌+◌, ◌*◌, ◌≤◌, ◌<◌, ◌≡◌, length, drop};
-ghost use Rattle.rules.specs.declared.Verdict.TheVariants.{Passes};
-ghost use Rattle.rules.specs.Entry.{and_then};
+ghost use Rattle.std.specs.Prelude.{◌+◌, ◌*◌, ◌≤◌, ◌≡◌, length, drop, Ok};
 ghost use Rattle.rules.specs.Judge.{words_of};
 ghost use Rattle.sheet.specs.Form.{needs, fault_of_length, fault_of_form, destination_of, count_of_lines, lines_from};
 ghost use Rattle.sheet.specs.Places.{entry_of, entry_line, over};
@@ -9,52 +7,43 @@ ghost use Rattle.sheet.specs.Entries.{fault_of_reading, read_reply, final_table}
 
 use super::rows::{Row, WORDS_PER_LINE};
 use super::{BYTES_PER_LINE, HEAD_BYTES, SheetRead, numbers, rows};
-use rules::{Limits, Refusal, Verdict};
+use rules::{Limits, Refusal};
 
-// The first fault so far, or that byte i is not there or has another value.
-fn byte_fault(before: Verdict, sheet: &[u8], i: usize, value: u8) -> Verdict
-    ensures { result ≡ and_then before (needs sheet.now i value Passes) }
+// Byte i is there and has this value.
+fn needs(sheet: &[u8], i: usize, value: u8) -> Result<(), Refusal>
+    ensures { result ≡ needs sheet.now i value (Ok tt) }
 {
-    let Verdict::Passes = before else {
-        return before;
-    };
-    if sheet.len() <= i {
-        return Verdict::Refused(Refusal::BrokenForm(sheet.len()));
+    match sheet.get(i) {
+        None => Err(Refusal::BrokenForm(sheet.len())),
+        Some(byte) if *byte == value => Ok(()),
+        Some(_) => Err(Refusal::BrokenForm(i)),
     }
-    if sheet[i] == value {
-        return Verdict::Passes;
-    }
-    Verdict::Refused(Refusal::BrokenForm(i))
 }
 
-// The first fault so far, or that bytes 8 and 9 are no multiple of 11 or not the bytes left.
-fn length_fault(before: Verdict, sheet: &[u8]) -> Verdict
-    ensures { result ≡ and_then before (fault_of_length sheet.now) }
+// Bytes 8 and 9 are a multiple of 11 and say how many bytes are left.
+fn needs_length(sheet: &[u8]) -> Result<(), Refusal>
+    ensures { result ≡ fault_of_length sheet.now }
 {
-    let Verdict::Passes = before else {
-        return before;
-    };
     if sheet.len() < HEAD_BYTES {
-        return Verdict::Refused(Refusal::BrokenForm(sheet.len()));
+        return Err(Refusal::BrokenForm(sheet.len()));
     }
     let size = usize::from(numbers::word2(sheet, 8));
-    if size % BYTES_PER_LINE == 0 {
-        if size == sheet.len() - HEAD_BYTES {
-            return Verdict::Passes;
-        }
+    if size % BYTES_PER_LINE == 0 && size == sheet.len() - HEAD_BYTES {
+        Ok(())
+    } else {
+        Err(Refusal::BrokenForm(8))
     }
-    Verdict::Refused(Refusal::BrokenForm(8))
 }
 
 // Refusal 10: byte 0 is 1; bytes 1 and 2 say 4; byte 7 is 2; then bytes 8 and 9.
-pub fn form_fault(sheet: &[u8]) -> Verdict
+pub fn form_fault(sheet: &[u8]) -> Result<(), Refusal>
     ensures { result ≡ fault_of_form sheet.now }
 {
-    let tag = byte_fault(Verdict::Passes, sheet, 0, 1);
-    let high = byte_fault(tag, sheet, 1, 0);
-    let low = byte_fault(high, sheet, 2, 4);
-    let tags = byte_fault(low, sheet, 7, 2);
-    length_fault(tags, sheet)
+    needs(sheet, 0, 1)?;
+    needs(sheet, 1, 0)?;
+    needs(sheet, 2, 4)?;
+    needs(sheet, 7, 2)?;
+    needs_length(sheet)
 }
 
 // The destination.
@@ -99,33 +88,33 @@ pub fn read_lines(sheet: &[u8], n: usize, table: &mut [u32])
 }
 
 // Refusals 1, 10, 8 of a sheet to be read into so many table words.
-fn read_fault(limits: Limits, sheet: &[u8], words: usize) -> Verdict
+fn check_reading(limits: Limits, sheet: &[u8], words: usize) -> Result<(), Refusal>
     ensures { result ≡ fault_of_reading limits sheet.now words }
 {
     if limits.sheet < sheet.len() {
-        return Verdict::Refused(Refusal::OverLimit);
+        return Err(Refusal::OverLimit);
     }
-    let form = form_fault(sheet);
-    let Verdict::Passes = form else {
-        return form;
-    };
+    form_fault(sheet)?;
     if words < WORDS_PER_LINE * line_count(sheet) {
-        return Verdict::Refused(Refusal::OutputShort);
+        return Err(Refusal::OutputShort);
     }
-    Verdict::Passes
+    Ok(())
 }
 
 // Reading within given limits. Nothing is written before all refusals are looked at.
-pub(crate) fn read_within(limits: Limits, sheet: &[u8], table: &mut [u32]) -> SheetRead
+pub(crate) fn read_within(
+    limits: Limits,
+    sheet: &[u8],
+    table: &mut [u32],
+) -> Result<SheetRead, Refusal>
     ensures reply { result ≡ read_reply limits sheet.now (length table.old) }
     ensures table { table.new ≡ final_table limits sheet.now table.old }
 {
-    match read_fault(limits, sheet, table.len()) {
-        Verdict::Passes => {
-            let n = line_count(sheet);
-            read_lines(sheet, n, table);
-            SheetRead::Lines(destination(sheet), n)
-        }
-        Verdict::Refused(refusal) => SheetRead::Refused(refusal),
-    }
+    check_reading(limits, sheet, table.len())?;
+    let lines = line_count(sheet);
+    read_lines(sheet, lines, table);
+    Ok(SheetRead {
+        destination: destination(sheet),
+        lines,
+    })
 }

@@ -2,14 +2,14 @@
 ghost use Rattle.std.specs.Prelude.{◌+◌, ◌*◌, ◌/◌, ◌≤◌, ◌<◌, ◌≡◌, length};
 ghost use Rattle.std.proofs.lemmas.List.Edits.{sets};
 ghost use Rattle.rules.specs.Judge.{entries_of};
-ghost use Rattle.rules.specs.Ascending.{Ascending};
+ghost use Rattle.rules.specs.Network.{links_of, ases_of};
 ghost use Rattle.sheet.specs.Form.{line_bytes, lines_bytes, sheet_of};
 ghost use Rattle.sheet.specs.Places.{entry_of, head_of, over};
 ghost use Rattle.sheet.specs.Writing.{OneField, fault_of_sheet, Wrote};
 
 use super::rows::{Row, WORDS_PER_LINE};
 use super::{BYTES_PER_LINE, HEAD_BYTES, numbers, rows, standing};
-use rules::{Checked, Refusal, Verdict};
+use rules::Refusal;
 
 // The ten bytes before lines of so many bytes.
 fn put_head(bytes: &mut [u8], destination: u32, size: u16)
@@ -42,7 +42,11 @@ fn put_lines(bytes: &mut [u8], table: &[u32])
     ensures { bytes.new ≡ sets bytes.old 10 (lines_bytes (entries_of table.now)) }
 {
     for i in 0..table.len() / WORDS_PER_LINE {
-        put_line(bytes, HEAD_BYTES + BYTES_PER_LINE * i, rows::row_at(table, i));
+        put_line(
+            bytes,
+            HEAD_BYTES + BYTES_PER_LINE * i,
+            rows::row_at(table, i),
+        );
     }
 }
 
@@ -56,41 +60,47 @@ pub fn put_sheet(bytes: &mut [u8], destination: u32, table: &[u32])
     put_lines(bytes, table);
 }
 
-// Refusals 7, 11, 8 of a sheet to be written into so many bytes.
-fn sheet_fault(ases: &[u32], destination: u32, table: &[u32], bound: u32, room: usize) -> Verdict
-    requires { Ascending ases.now × OneField ases.now }
-    ensures { result ≡ fault_of_sheet bound ases.now destination table.now room }
-{
-    let named = standing::destination_fault(ases, destination);
-    let Verdict::Passes = named else {
-        return named;
-    };
-    let lines = standing::table_fault(ases, table, bound);
-    let Verdict::Passes = lines else {
-        return lines;
-    };
-    if room < HEAD_BYTES + BYTES_PER_LINE * ases.len() {
-        return Verdict::Refused(Refusal::OutputShort);
-    }
-    Verdict::Passes
+// A table to be written as the sheet to a destination, for the ASes of some link words. Its lengths stand up to the bound.
+#[derive(Clone, Copy, Debug)]
+pub(crate) struct Draft<'a> {
+    pub words: &'a [u32],
+    pub ases: &'a [u32],
+    pub destination: u32,
+    pub table: &'a [u32],
+    pub bound: u32,
+    ghost listed: { ases.now ≡ ases_of (links_of words.now) },
+    ghost one_field: { OneField ases.now },
 }
 
-// Writes the sheet of a table for the ASes of a network: the number of its bytes, or refusals 7, 11, 8.
-pub(crate) fn write_for(
-    ases: &[u32],
-    destination: u32,
-    table: &[u32],
-    bound: u32,
-    bytes: &mut [u8],
-) -> Checked
-    requires { Ascending ases.now × OneField ases.now }
-    ensures { Wrote bound ases.now destination table.now bytes.old bytes.new result }
-{
-    match sheet_fault(ases, destination, table, bound, bytes.len()) {
-        Verdict::Passes => {
-            put_sheet(bytes, destination, table);
-            Checked::Accepted(HEAD_BYTES + BYTES_PER_LINE * ases.len())
+impl Draft<'_> {
+    // The bytes of its sheet.
+    fn size(self) -> usize
+        ensures { result ≡ 10 + 11 * length self.entry.ases.now }
+    {
+        HEAD_BYTES + BYTES_PER_LINE * self.ases.len()
+    }
+
+    // Refusals 7, 11, 8 of its sheet, to be written into so many bytes.
+    #[tactic(auto, using(std::proofs::lemmas::Grind::common_steps, crate::proofs::WriteLaws::draft_order), unfolding(crate::specs::Writing::fault_of_sheet))]
+    fn check(self, room: usize) -> Result<(), Refusal>
+        ensures { result ≡ fault_of_sheet self.entry.bound self.entry.ases.now self.entry.destination self.entry.table.now room }
+    {
+        network::place_of(self.ases, self.ases.len(), self.destination).ok_or(
+            Refusal::NoDestination,
+        )?;
+        standing::table_fault(self.ases, self.table, self.bound)?;
+        if room < self.size() {
+            return Err(Refusal::OutputShort);
         }
-        Verdict::Refused(refusal) => Checked::Refused(refusal),
+        Ok(())
+    }
+
+    // Writes its sheet: the number of bytes, or refusals 7, 11, 8.
+    pub(crate) fn write(self, bytes: &mut [u8]) -> Result<usize, Refusal>
+        ensures { Wrote self.entry.bound self.entry.ases.now self.entry.destination self.entry.table.now bytes.old bytes.new result }
+    {
+        self.check(bytes.len())?;
+        put_sheet(bytes, self.destination, self.table);
+        Ok(self.size())
     }
 }
