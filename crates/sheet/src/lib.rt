@@ -5,6 +5,7 @@ ghost use Rattle.std.specs.Prelude.{◌≡◌, length};
 ghost use Rattle.rules.specs.Checks.{base_limits};
 ghost use Rattle.sheet.specs.Entries.{read_reply, final_table, write_reply, final_bytes};
 
+use network::Network;
 use rules::{Limits, Refusal};
 use writing::Draft;
 
@@ -50,15 +51,14 @@ pub fn write_sheet(
     ensures reply { result ≡ write_reply base_limits 511 words.now destination table.now (length bytes.old) }
     ensures bytes { bytes.new ≡ final_bytes base_limits 511 words.now destination table.now bytes.old }
 {
-    network::check_links(words)?;
+    let network = Network::check(words)?;
     let mut ases = [0u32; 512];
     let n = network::list_ases(words, &mut ases);
     let draft = Draft {
-        words,
+        network,
         ases: &ases[..n],
         destination,
         table,
-        bound: LONGEST,
     };
     draft.write(bytes)
 }

@@ -8,7 +8,8 @@ ghost use Rattle.sheet.specs.Places.{entry_of, head_of, over};
 ghost use Rattle.sheet.specs.Writing.{OneField, fault_of_sheet, Wrote};
 
 use super::rows::{Row, WORDS_PER_LINE};
-use super::{BYTES_PER_LINE, HEAD_BYTES, numbers, rows, standing};
+use super::{BYTES_PER_LINE, HEAD_BYTES, LONGEST, numbers, rows, standing};
+use network::Network;
 use rules::Refusal;
 
 // The ten bytes before lines of so many bytes.
@@ -60,15 +61,14 @@ pub fn put_sheet(bytes: &mut [u8], destination: u32, table: &[u32])
     put_lines(bytes, table);
 }
 
-// A table to be written as the sheet to a destination, for the ASes of some link words. Its lengths stand up to the bound.
+// A table to be written as the sheet to a destination, for a network and the list of its ASes.
 #[derive(Clone, Copy, Debug)]
 pub(crate) struct Draft<'a> {
-    pub words: &'a [u32],
+    pub network: Network<'a>,
     pub ases: &'a [u32],
     pub destination: u32,
     pub table: &'a [u32],
-    pub bound: u32,
-    ghost listed: { ases.now ≡ ases_of (links_of words.now) },
+    ghost listed: { ases.now ≡ ases_of (links_of network.words.now) },
     ghost one_field: { OneField ases.now },
 }
 
@@ -83,12 +83,10 @@ impl Draft<'_> {
     // Refusals 7, 11, 8 of its sheet, to be written into so many bytes.
     #[tactic(auto, using(std::proofs::lemmas::Grind::common_steps, crate::proofs::WriteLaws::draft_order), unfolding(crate::specs::Writing::fault_of_sheet))]
     fn check(self, room: usize) -> Result<(), Refusal>
-        ensures { result ≡ fault_of_sheet self.entry.bound self.entry.ases.now self.entry.destination self.entry.table.now room }
+        ensures { result ≡ fault_of_sheet 511 self.entry.ases.now self.entry.destination self.entry.table.now room }
     {
-        network::place_of(self.ases, self.ases.len(), self.destination).ok_or(
-            Refusal::NoDestination,
-        )?;
-        standing::table_fault(self.ases, self.table, self.bound)?;
+        network::place_of(self.ases, self.ases.len(), self.destination).ok_or(Refusal::NoDestination)?;
+        standing::table_fault(self.ases, self.table, LONGEST)?;
         if room < self.size() {
             return Err(Refusal::OutputShort);
         }
@@ -97,7 +95,7 @@ impl Draft<'_> {
 
     // Writes its sheet: the number of bytes, or refusals 7, 11, 8.
     pub(crate) fn write(self, bytes: &mut [u8]) -> Result<usize, Refusal>
-        ensures { Wrote self.entry.bound self.entry.ases.now self.entry.destination self.entry.table.now bytes.old bytes.new result }
+        ensures { Wrote 511 self.entry.ases.now self.entry.destination self.entry.table.now bytes.old bytes.new result }
     {
         self.check(bytes.len())?;
         put_sheet(bytes, self.destination, self.table);
