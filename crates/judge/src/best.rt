@@ -10,7 +10,7 @@ use rules::{Refusal, TypeLength};
 use sheet::rows;
 use sheet::rows::{Row, WORDS_PER_LINE};
 
-// The lines that a sheet prints, as table words: one for each AS of a network, in order.
+/// The lines that a sheet prints, as table words: one for each AS of a network, in order.
 #[derive(Clone, Copy, Debug)]
 pub struct Printed<'a> {
     pub network: Network<'a>,
@@ -21,7 +21,8 @@ pub struct Printed<'a> {
 }
 
 impl Printed<'_> {
-    // Refusal 12 of the lines, for the destination at a place of the ASes.
+    /// Refusal 12 of the lines, for the destination at a place of the ASes.
+    #[tactic(auto, using(std::proofs::lemmas::Grind::common_steps, crate::proofs::NetworkLaws::network_facts))]
     pub fn judge(self, at: usize) -> Result<(), Refusal>
         requires { at < length self.ases.now }
         ensures { result ≡ best_offers (arcs_of (links_of self.entry.network.words.now)) (get_or self.entry.ases.now at 0) (entries_of self.entry.lines.now) }
@@ -31,7 +32,7 @@ impl Printed<'_> {
         first_difference(self.lines, &due[..WORDS_PER_LINE * self.ases.len()])
     }
 
-    // The lines that are due: the destination's is origin, any other the best offer of what the neighbours' lines tell.
+    /// The lines that are due: the destination's is origin, any other the best offer of what the neighbours' lines tell.
     fn put_due(self, at: usize, due: &mut [u32])
         requires { (at < length self.ases.now) × (4 * length self.ases.now ≤ length due.old) }
         ensures { due.new ≡ with_due (links_of self.entry.network.words.now) (get_or self.entry.ases.now at 0) self.entry.lines.now self.entry.ases.now due.old }
@@ -44,7 +45,7 @@ impl Printed<'_> {
     }
 }
 
-// The lowest line printed that is not the one due.
+/// The lowest line printed that is not the one due.
 #[tactic(auto, using(std::proofs::lemmas::Grind::common_steps, crate::proofs::DifferLaws::differ_steps))]
 fn first_difference(lines: &[u32], due: &[u32]) -> Result<(), Refusal>
     requires { length due.now ≡ length lines.now }
@@ -58,7 +59,7 @@ fn first_difference(lines: &[u32], due: &[u32]) -> Result<(), Refusal>
     Ok(())
 }
 
-// The same type, length and next hop.
+/// The same type, length and next hop.
 fn is_same_line(told: Row, best: Row) -> bool
     ensures { result ≡ is_same_line (entry_of told).line (entry_of best).line }
 {

@@ -15,8 +15,8 @@ use sheet::reading;
 mod best;
 mod lines;
 
-// Judges a sheet for the links: it passes, or refusals 1, 2 to 6, 8 (room), 10, 7, 11, 12. The lent room is zero after a sheet that
-// passes, and stays as it was after a refusal.
+/// Judges a sheet for the links: it passes, or refusals 1, 2 to 6, 8 (room), 10, 7, 11, 12. The lent room is zero after a sheet that
+/// passes, and stays as it was after a refusal.
 pub fn judge_sheet(words: &[u32], sheet: &[u8], room: &mut [u32]) -> Result<(), Refusal>
     ensures { Judged base_limits 511 words.now sheet.now room.old result room.new }
 {
@@ -25,7 +25,7 @@ pub fn judge_sheet(words: &[u32], sheet: &[u8], room: &mut [u32]) -> Result<(), 
     Ok(())
 }
 
-// What the judge says where so many words of room are lent.
+/// What the judge says where so many words of room are lent.
 fn check_sheet(words: &[u32], sheet: &[u8], room: usize) -> Result<(), Refusal>
     ensures { result ≡ judge_reply base_limits 511 words.now sheet.now room }
 {
@@ -35,7 +35,8 @@ fn check_sheet(words: &[u32], sheet: &[u8], room: usize) -> Result<(), Refusal>
     judge_network(Network::check(words)?, sheet, room)
 }
 
-// Refusals 8 (room), 10, 7, 11, 12 of a sheet for a network.
+/// Refusals 8 (room), 10, 7, 11, 12 of a sheet for a network.
+#[tactic(auto, using(std::proofs::lemmas::Grind::common_steps, crate::proofs::NetworkLaws::network_facts))]
 fn judge_network(network: Network<'_>, sheet: &[u8], room: usize) -> Result<(), Refusal>
     ensures { result ≡ fault_of_sheet 511 (links_of network.entry.words.now) sheet.now room }
 {

@@ -12,24 +12,26 @@ use rules::Refusal;
 use sheet::rows::WORDS_PER_LINE;
 use sheet::{LONGEST, reading, standing};
 
-// Refusals 7, 11 and 12 of a sheet for a network with these ASes.
+/// Refusals 7, 11 and 12 of a sheet for a network with these ASes.
+#[tactic(auto, using(std::proofs::lemmas::Grind::common_steps, sheet::proofs::WriteLaws::draft_order, crate::proofs::NetworkLaws::network_facts))]
 pub fn judge_lines(network: Network<'_>, ases: &[u32], sheet: &[u8]) -> Result<(), Refusal>
     requires { (ases.now ≡ ases_of (links_of network.words.now)) × (fault_of_form sheet.now ≡ Ok tt) }
     ensures { result ≡ fault_of_lines 511 (links_of network.entry.words.now) sheet.now }
 {
-    let at = network::place_of(ases, ases.len(), reading::destination(sheet)).ok_or(Refusal::NoDestination)?;
+    let place = network::place_of(ases, ases.len(), reading::destination(sheet));
+    let at = place.ok_or(Refusal::NoDestination)?;
     let mut told = [0u32; 2048];
     put_lines(ases, sheet, &mut told)?;
-    let lines = &told[..WORDS_PER_LINE * ases.len()];
-    Printed {
+    let printed = Printed {
         network,
         ases,
-        lines,
-    }
-    .judge(at)
+        lines: &told[..WORDS_PER_LINE * ases.len()],
+    };
+    printed.judge(at)
 }
 
-// Refusal 11, and the sheet's lines as table words, up to the shorter count: missing or surplus lines have it as place.
+/// Refusal 11, and the sheet's lines as table words, up to the shorter count: missing or surplus lines have it as place.
+#[tactic(auto, using(std::proofs::lemmas::Grind::common_steps, crate::proofs::StandLaws::lines_order))]
 fn put_lines(ases: &[u32], sheet: &[u8], told: &mut [u32]) -> Result<(), Refusal>
     requires { (fault_of_form sheet.now ≡ Ok tt) × (4 * length ases.now ≤ length told.old) }
     ensures reply { result ≡ standing 511 ases.now (lines_of sheet.now) }

@@ -3,7 +3,7 @@ ghost use Rattle.std.specs.Prelude.{◌+◌, ◌≤◌, ◌≡◌, length};
 ghost use Rattle.std.proofs.lemmas.List.Edits.{sets};
 ghost use Rattle.sheet.specs.Form.{word2, word4, bytes2, bytes4};
 
-// The number in the two bytes from i on.
+/// The number in the two bytes from i on.
 pub fn word2(s: &[u8], i: usize) -> u16
     requires { i + 2 ≤ length s.now }
     ensures { result ≡ word2 s.now i }
@@ -11,7 +11,7 @@ pub fn word2(s: &[u8], i: usize) -> u16
     u16::from_be_bytes([s[i], s[i + 1]])
 }
 
-// The number in the four bytes from i on.
+/// The number in the four bytes from i on.
 pub fn word4(s: &[u8], i: usize) -> u32
     requires { i + 4 ≤ length s.now }
     ensures { result ≡ word4 s.now i }
@@ -19,7 +19,7 @@ pub fn word4(s: &[u8], i: usize) -> u32
     u32::from_be_bytes([s[i], s[i + 1], s[i + 2], s[i + 3]])
 }
 
-// The two bytes of a number, from i on.
+/// The two bytes of a number, from i on.
 pub fn put2(s: &mut [u8], i: usize, x: u16)
     requires { i + 2 ≤ length s.old }
     ensures { s.new ≡ sets s.old i (bytes2 x) }
@@ -27,7 +27,7 @@ pub fn put2(s: &mut [u8], i: usize, x: u16)
     s[i..i + 2].copy_from_slice(&x.to_be_bytes());
 }
 
-// The four bytes of a number, from i on.
+/// The four bytes of a number, from i on.
 pub fn put4(s: &mut [u8], i: usize, x: u32)
     requires { i + 4 ≤ length s.old }
     ensures { s.new ≡ sets s.old i (bytes4 x) }

@@ -1,15 +1,16 @@
 // A sheet read: its form, its numbers at their places, its lines as table words.
 ghost use Rattle.std.specs.Prelude.{◌+◌, ◌*◌, ◌≤◌, ◌≡◌, length, drop, Ok};
+ghost use Rattle.rules.specs.Checks.{base_limits};
 ghost use Rattle.rules.specs.Judge.{words_of};
 ghost use Rattle.sheet.specs.Form.{needs, fault_of_length, fault_of_form, destination_of, count_of_lines, lines_from};
 ghost use Rattle.sheet.specs.Places.{entry_of, entry_line, over};
-ghost use Rattle.sheet.specs.Entries.{fault_of_reading, read_reply, final_table};
+ghost use Rattle.sheet.specs.Entries.{fault_of_reading};
 
 use super::rows::{Row, WORDS_PER_LINE};
-use super::{BYTES_PER_LINE, HEAD_BYTES, SheetRead, numbers, rows};
+use super::{BYTES_PER_LINE, HEAD_BYTES, numbers, rows};
 use rules::{Limits, Refusal};
 
-// Byte i is there and has this value.
+/// Byte i is there and has this value.
 fn needs(sheet: &[u8], i: usize, value: u8) -> Result<(), Refusal>
     ensures { result ≡ needs sheet.now i value (Ok tt) }
 {
@@ -20,7 +21,7 @@ fn needs(sheet: &[u8], i: usize, value: u8) -> Result<(), Refusal>
     }
 }
 
-// Bytes 8 and 9 are a multiple of 11 and say how many bytes are left.
+/// Bytes 8 and 9 are a multiple of 11 and say how many bytes are left.
 fn needs_length(sheet: &[u8]) -> Result<(), Refusal>
     ensures { result ≡ fault_of_length sheet.now }
 {
@@ -35,7 +36,7 @@ fn needs_length(sheet: &[u8]) -> Result<(), Refusal>
     }
 }
 
-// Refusal 10: byte 0 is 1; bytes 1 and 2 say 4; byte 7 is 2; then bytes 8 and 9.
+/// Refusal 10: byte 0 is 1; bytes 1 and 2 say 4; byte 7 is 2; then bytes 8 and 9.
 pub fn form_fault(sheet: &[u8]) -> Result<(), Refusal>
     ensures { result ≡ fault_of_form sheet.now }
 {
@@ -46,7 +47,7 @@ pub fn form_fault(sheet: &[u8]) -> Result<(), Refusal>
     needs_length(sheet)
 }
 
-// The destination.
+/// The destination.
 pub fn destination(sheet: &[u8]) -> u32
     requires { 7 ≤ length sheet.now }
     ensures { result ≡ destination_of sheet.now }
@@ -54,7 +55,7 @@ pub fn destination(sheet: &[u8]) -> u32
     numbers::word4(sheet, 3)
 }
 
-// The number of lines.
+/// The number of lines.
 pub fn line_count(sheet: &[u8]) -> usize
     requires { 10 ≤ length sheet.now }
     ensures { result ≡ count_of_lines sheet.now }
@@ -62,7 +63,7 @@ pub fn line_count(sheet: &[u8]) -> usize
     usize::from(numbers::word2(sheet, 8)) / BYTES_PER_LINE
 }
 
-// Line i.
+/// Line i.
 pub(crate) fn line_at(sheet: &[u8], i: usize) -> Row
     requires { 10 + 11 * i + 11 ≤ length sheet.now }
     ensures { entry_of result ≡ entry_line sheet.now i }
@@ -76,7 +77,7 @@ pub(crate) fn line_at(sheet: &[u8], i: usize) -> Row
     }
 }
 
-// The first n lines as table words. The other words stay.
+/// The first n lines as table words. The other words stay.
 #[tactic(auto, using(std::proofs::lemmas::Grind::common_steps, crate::proofs::ReadLaws::table_steps))]
 pub fn read_lines(sheet: &[u8], n: usize, table: &mut [u32])
     requires { (10 + 11 * n ≤ length sheet.now) × (4 * n ≤ length table.old) }
@@ -87,11 +88,11 @@ pub fn read_lines(sheet: &[u8], n: usize, table: &mut [u32])
     }
 }
 
-// Refusals 1, 10, 8 of a sheet to be read into so many table words.
-fn check_reading(limits: Limits, sheet: &[u8], words: usize) -> Result<(), Refusal>
-    ensures { result ≡ fault_of_reading limits sheet.now words }
+/// Refusals 1, 10, 8 of a sheet to be read into so many table words.
+pub(crate) fn check(sheet: &[u8], words: usize) -> Result<(), Refusal>
+    ensures { result ≡ fault_of_reading base_limits sheet.now words }
 {
-    if limits.sheet < sheet.len() {
+    if Limits::BASE.sheet < sheet.len() {
         return Err(Refusal::OverLimit);
     }
     form_fault(sheet)?;
@@ -99,22 +100,4 @@ fn check_reading(limits: Limits, sheet: &[u8], words: usize) -> Result<(), Refus
         return Err(Refusal::OutputShort);
     }
     Ok(())
-}
-
-// Reading within given limits. Nothing is written before all refusals are looked at.
-pub(crate) fn read_within(
-    limits: Limits,
-    sheet: &[u8],
-    table: &mut [u32],
-) -> Result<SheetRead, Refusal>
-    ensures reply { result ≡ read_reply limits sheet.now (length table.old) }
-    ensures table { table.new ≡ final_table limits sheet.now table.old }
-{
-    check_reading(limits, sheet, table.len())?;
-    let lines = line_count(sheet);
-    read_lines(sheet, lines, table);
-    Ok(SheetRead {
-        destination: destination(sheet),
-        lines,
-    })
 }

@@ -7,14 +7,14 @@ use super::rows;
 use super::rows::WORDS_PER_LINE;
 use rules::Refusal;
 
-// The smaller of two counts.
+/// The smaller of two counts.
 pub fn shorter(n: usize, m: usize) -> usize
     ensures { result ≡ min n m }
 {
     n.min(m)
 }
 
-// Refusal 11 of a table of as many lines as there are ASes: the lowest line that cannot stand.
+/// Refusal 11 of a table of as many lines as there are ASes: the lowest line that cannot stand.
 #[tactic(auto, using(std::proofs::lemmas::Grind::common_steps, crate::proofs::StandingLaws::standing_steps))]
 pub fn lines_fault(ases: &[u32], table: &[u32], bound: u32) -> Result<(), Refusal>
     requires { length table.now ≡ 4 * length ases.now }
@@ -29,8 +29,8 @@ pub fn lines_fault(ases: &[u32], table: &[u32], bound: u32) -> Result<(), Refusa
     Ok(())
 }
 
+/// Refusal 11 of any table: missing or surplus lines and words have the shorter count as place.
 #[tactic(auto, using(std::proofs::lemmas::Grind::common_steps, crate::proofs::StandingLaws::table_order))]
-// Refusal 11 of any table: missing or surplus lines and words have the shorter count as place.
 pub(crate) fn table_fault(ases: &[u32], table: &[u32], bound: u32) -> Result<(), Refusal>
     ensures { result ≡ fault_of_table bound ases.now table.now }
 {

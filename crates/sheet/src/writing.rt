@@ -12,7 +12,7 @@ use super::{BYTES_PER_LINE, HEAD_BYTES, LONGEST, numbers, rows, standing};
 use network::Network;
 use rules::Refusal;
 
-// The ten bytes before lines of so many bytes.
+/// The ten bytes before lines of so many bytes.
 fn put_head(bytes: &mut [u8], destination: u32, size: u16)
     requires { 10 ≤ length bytes.old }
     ensures { bytes.new ≡ sets bytes.old 0 (head_of destination size) }
@@ -25,7 +25,7 @@ fn put_head(bytes: &mut [u8], destination: u32, size: u16)
     numbers::put2(bytes, 8, size);
 }
 
-// The eleven bytes of a line, from byte at on.
+/// The eleven bytes of a line, from byte at on.
 fn put_line(bytes: &mut [u8], at: usize, row: Row)
     requires { at + 11 ≤ length bytes.old }
     ensures { bytes.new ≡ sets bytes.old at (line_bytes (entry_of row)) }
@@ -36,7 +36,7 @@ fn put_line(bytes: &mut [u8], at: usize, row: Row)
     numbers::put4(bytes, at + 7, row.next);
 }
 
-// The lines of a table, from byte 10 on.
+/// The lines of a table, from byte 10 on.
 #[tactic(auto, using(std::proofs::lemmas::Grind::common_steps, crate::proofs::RunLaws::lines_steps))]
 fn put_lines(bytes: &mut [u8], table: &[u32])
     requires { 10 + 11 * (length table.now / 4) ≤ length bytes.old }
@@ -51,7 +51,7 @@ fn put_lines(bytes: &mut [u8], table: &[u32])
     }
 }
 
-// The sheet of a table. The bytes beyond it stay.
+/// The sheet of a table. The bytes beyond it stay.
 pub fn put_sheet(bytes: &mut [u8], destination: u32, table: &[u32])
     requires { (10 + 11 * (length table.now / 4) ≤ length bytes.old) × (11 * (length table.now / 4) < 65536) }
     ensures { bytes.new ≡ over (sheet_of destination (entries_of table.now)) bytes.old }
@@ -61,7 +61,7 @@ pub fn put_sheet(bytes: &mut [u8], destination: u32, table: &[u32])
     put_lines(bytes, table);
 }
 
-// A table to be written as the sheet to a destination, for a network and the list of its ASes.
+/// A table to be written as the sheet to a destination, for a network and the list of its ASes.
 #[derive(Clone, Copy, Debug)]
 pub(crate) struct Draft<'a> {
     pub network: Network<'a>,
@@ -73,19 +73,20 @@ pub(crate) struct Draft<'a> {
 }
 
 impl Draft<'_> {
-    // The bytes of its sheet.
+    /// The bytes of its sheet.
     fn size(self) -> usize
         ensures { result ≡ 10 + 11 * length self.entry.ases.now }
     {
         HEAD_BYTES + BYTES_PER_LINE * self.ases.len()
     }
 
-    // Refusals 7, 11, 8 of its sheet, to be written into so many bytes.
+    /// Refusals 7, 11, 8 of its sheet, to be written into so many bytes.
     #[tactic(auto, using(std::proofs::lemmas::Grind::common_steps, crate::proofs::WriteLaws::draft_order), unfolding(crate::specs::Writing::fault_of_sheet))]
     fn check(self, room: usize) -> Result<(), Refusal>
         ensures { result ≡ fault_of_sheet 511 self.entry.ases.now self.entry.destination self.entry.table.now room }
     {
-        network::place_of(self.ases, self.ases.len(), self.destination).ok_or(Refusal::NoDestination)?;
+        let place = network::place_of(self.ases, self.ases.len(), self.destination);
+        place.ok_or(Refusal::NoDestination)?;
         standing::table_fault(self.ases, self.table, LONGEST)?;
         if room < self.size() {
             return Err(Refusal::OutputShort);
@@ -93,7 +94,7 @@ impl Draft<'_> {
         Ok(())
     }
 
-    // Writes its sheet: the number of bytes, or refusals 7, 11, 8.
+    /// Writes its sheet: the number of bytes, or refusals 7, 11, 8.
     pub(crate) fn write(self, bytes: &mut [u8]) -> Result<usize, Refusal>
         ensures { Wrote 511 self.entry.ases.now self.entry.destination self.entry.table.now bytes.old bytes.new result }
     {
