@@ -1,40 +1,21 @@
 -- The runs of bytes that make a number, a head, a line and a sheet. Each is one run after the other (`sets-append`).
-use Prim.Native.Nat.{ℕ, ◌+◌, ◌*◌, ◌/◌, ◌%◌, ◌≤◌}
+use Prim.Native.Nat.{ℕ, ◌+◌, ◌*◌, ◌/◌, ◌≤◌}
 use mathlib.Core.Path.{◌≡◌, refl, sym, ap, ◌∙◌}
-use mathlib.Core.List.{List, [], ◌∷◌, ◌++◌, append_assoc}
+use mathlib.Core.List.{List, append_assoc}
 use native.Mathlib.Omega.{arith}
-use lib.ListN.{length, take, drop, set, length-drop}
+use lib.ListN.{length, take, drop, length-drop}
 use lib.Seq.{sets, sets-eq, drop-drop}
 use borrow.Rule.Slice.PartMut.{put_mid}
 use Rattle.rules.specs.Judge.{Entry, entries_of}
 use Rattle.rules.proofs.EntryLaws.{length_entries, entries_next, entries_few}
 use Rattle.rules.proofs.StoreLaws.{sets-append, sets_front}
-use Rattle.sheet.specs.Form.{bytes2, bytes4, line_bytes, lines_bytes, sheet_of}
+use Rattle.sheet.specs.Form.{line_bytes, lines_bytes, sheet_of}
 use Rattle.sheet.specs.Places.{entry_at, head_of, over}
 use Rattle.sheet.proofs.FormLaws.{length_line, length-lines_bytes}
 
 -- a run written over a part of a slice
 pub pasted : (s ys vs : List ℕ) (i k : ℕ) → ys ≡ vs → k ≡ length vs → i + length vs ≤ length s → put_mid i k s ys ≡ sets s i vs
 pasted s ys vs i k e p h = rw (e, p, drop-drop) (sym (append_assoc (take i s) vs _) ∙ sym (sets-eq vs s i h))
-
--- a head
-pub head_run : (s t u : List ℕ) (d size : ℕ) → t ≡ sets (set (set (set s 0 1) 1 0) 2 4) 3 (bytes4 d) → u ≡ sets (set t 7 2) 8 (bytes2 size)
-    → u ≡ sets s 0 (head_of d size)
-head_run s t u d size p q = q ∙ rw p
-
--- a line
-pub line_run : (s t u v : List ℕ) (at : ℕ) (e : Entry) → t ≡ sets s at (bytes4 e.number) → u ≡ sets (set t (at + 4) (e.line.pair.typ % 256)) (at + 5) (bytes2 e.line.pair.length)
-    → v ≡ sets u (at + 7) (bytes4 e.line.next) → v ≡ sets s at (line_bytes e)
-unfolding line_bytes
-line_run s t u v at e p q r =
-    let n = bytes4 e.number in
-    let y = e.line.pair.typ % 256 ∷ [] in
-    let l = bytes2 e.line.pair.length in
-    let h = bytes4 e.line.next in
-    r
-    ∙ rw q (sets-append l h (sets t (at + 4) y) (at + 5) (at + 7) (omega arith))
-    ∙ sets-append y (l ++ h) t (at + 4) (at + 5) (omega arith)
-    ∙ rw p (sets-append n (y ++ (l ++ h)) s at (at + 4) refl)
 
 -- the bytes with the lines from i on written as well
 unfoldable pub lines_put : List ℕ → List ℕ → ℕ → List ℕ

@@ -1,4 +1,5 @@
 // Numbers of two and four bytes, high byte first.
+// Kept: a function for each size, since each is one line and a trait over both would be longer.
 ghost use Rattle.std.specs.Prelude.{◌+◌, ◌≤◌, ◌≡◌, length};
 ghost use Rattle.std.proofs.lemmas.List.Edits.{sets};
 ghost use Rattle.sheet.specs.Form.{word2, word4, bytes2, bytes4};

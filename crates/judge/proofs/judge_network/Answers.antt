@@ -1,5 +1,4 @@
 -- `judge_network`: room, form and lines are refusals 8, 10, and 7 to 12 in order (`sheet_in_order`), for the ASes that were listed.
-use Rattle.std.specs.Prelude.{Ok}
 use Rattle.std.proofs.Common.{rules, ◌≡◌, refl, sym, ◌∙◌, arith, length}
 use Rattle.judge.proofs.NetworkLaws.{counts}
 use Rattle.judge.proofs.OrderLaws.{room_short, room_enough, sheet_in_order}
