@@ -7,7 +7,7 @@ ghost use Rattle.sheet.specs.Places.{entry_of, entry_at};
 /// Words per line: AS, type, length, next hop.
 pub const WORDS_PER_LINE: usize = 4;
 
-/// A line of a table or a sheet.
+/// A line of a table or a sheet: the number of its AS, the type and the length of that AS's route, and its next hop.
 #[derive(Clone, Copy, Debug, PartialEq, Eq)]
 pub struct Row {
     pub number: u32,

@@ -18,8 +18,7 @@ fn put_head(bytes: &mut [u8], destination: u32, size: u16)
     ensures { bytes.new ≡ sets bytes.old 0 (head_of destination size) }
 {
     bytes[0] = 1;
-    bytes[1] = 0;
-    bytes[2] = 4;
+    numbers::put2(bytes, 1, 4);
     numbers::put4(bytes, 3, destination);
     bytes[7] = 2;
     numbers::put2(bytes, 8, size);
