@@ -2,7 +2,7 @@
 -- are, and by induction along the ASes.
 use Prim.Native.Nat.{ℕ, suc, ◌+◌, ◌*◌, ◌≤◌, ◌<◌}
 use mathlib.Core.Path.{◌≡◌, refl, sym, ap, subst}
-use mathlib.Core.Bool.{Bool, cond}
+use mathlib.Core.Bool.{true, false, cond}
 use mathlib.Core.List.{List, [], ◌∷◌}
 use native.Mathlib.Numerals.{add-one}
 use native.Mathlib.Omega.{arith}
@@ -18,19 +18,33 @@ use Rattle.rules.proofs.EntryLaws.{entries_next, entries_few}
 use Rattle.judge.specs.Steps.{differ_from}
 
 -- from entry i on
-abbrev pub differ_at : List ℕ → List ℕ → ℕ → Verdict
+unfoldable pub differ_at : List ℕ → List ℕ → ℕ → Verdict
 differ_at t b i = differ_from i (entries_of (drop (4 * i) t)) (entries_of (drop (4 * i) b))
 
-pub differ_next : (t b : List ℕ) (i : ℕ) (e f : Entry) (r : Bool) → 4 * i + 4 ≤ length t → 4 * i + 4 ≤ length b → e ≡ entry_at t i → f ≡ entry_at b i
-    → r ≡ is_same_line e.line f.line → differ_at t b i ≡ cond r (differ_at t b (i + 1)) (Err (NotBest i))
-unfolding differ_from
-differ_next t b i e f r h g line other test = rw (entries_next t i h, entries_next b i g, add-one i, test, line, other)
+pub differ_at-all : (t b : List ℕ) → differ_at t b 0 ≡ differ_from 0 (entries_of t) (entries_of b)
+unfolding differ_at
+differ_at-all t b = refl
 
-pub differ_end : (t b : List ℕ) (i : ℕ) → length t < 4 * i + 4 → differ_at t b i ≡ Ok tt
-unfolding differ_from
-differ_end t b i h =
+line_differs : (t b : List ℕ) (i : ℕ) → 4 * i + 4 ≤ length t → 4 * i + 4 ≤ length b
+    → differ_at t b i ≡ cond (is_same_line (entry_at t i).line (entry_at b i).line) (differ_at t b (i + 1)) (Err (NotBest i))
+unfolding differ_at differ_from
+line_differs t b i h g = rw (entries_next t i h, entries_next b i g, add-one i)
+
+pub differ_at-next : (t b : List ℕ) (i : ℕ) → 4 * i + 4 ≤ length t → 4 * i + 4 ≤ length b → is_same_line (entry_at t i).line (entry_at b i).line ≡ true
+    → differ_at t b i ≡ differ_at t b (i + 1)
+differ_at-next t b i h g e = rw e at (line_differs t b i h g)
+
+pub differ_at-refused : (t b : List ℕ) (i : ℕ) → 4 * i + 4 ≤ length t → 4 * i + 4 ≤ length b → is_same_line (entry_at t i).line (entry_at b i).line ≡ false
+    → differ_at t b i ≡ Err (NotBest i)
+differ_at-refused t b i h g e = rw e at (line_differs t b i h g)
+
+pub differ_at-end : (t b : List ℕ) (i : ℕ) → length t < 4 * i + 4 → differ_at t b i ≡ Ok tt
+unfolding differ_at differ_from
+differ_at-end t b i h =
     let few : length (drop (4 * i) t) < 4 = simp length-drop (omega arith) in
     rw (entries_few (drop (4 * i) t) few)
+
+pub ruleset differ_steps = (differ_at-all, differ_at-next, differ_at-refused, differ_at-end)
 
 -- against the lines that are due it is refusal 12
 module _ (net : List Arc) (d : ℕ) where

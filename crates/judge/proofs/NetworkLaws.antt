@@ -1,10 +1,9 @@
 -- The network of accepted links, as the judge holds it: the list of its ASes ascends, and both counts are within the limits.
 use Prim.Native.Nat.{ℕ, ◌/◌, ◌≤◌}
-use mathlib.Core.Path.{◌≡◌, sym, ◌∙◌, ap}
+use mathlib.Core.Path.{◌≡◌, sym, ap}
 use mathlib.Core.List.{List}
 use native.Mathlib.Omega.{arith}
-use lib.ListN.{length, take}
-use lib.Seq.{take_at}
+use lib.ListN.{length}
 use Rattle.std.specs.Prelude.{Ok}
 use Rattle.rules.specs.Lists.{Distinct}
 use Rattle.rules.specs.Network.{links_of, ases_of}
@@ -12,7 +11,6 @@ use Rattle.rules.specs.Checks.{base_limits, check_words}
 use Rattle.rules.proofs.NetworkLaws.{ases_Ascending, ases_Distinct}
 use Rattle.rules.proofs.AcceptedLinks.{check_words-Accepted}
 use Rattle.rules.specs.Ascending.{Ascending}
-use Rattle.network.specs.Promises.{Listed}
 use Rattle.network.proofs.PrefixLaws.{count}
 use Rattle.judge.specs.Steps.{Network}
 
@@ -29,15 +27,21 @@ module _ {ws : List ℕ} {n : ℕ} (e : check_words base_limits ws ≡ Ok n) whe
       let a = (check_words-Accepted base_limits ws n e).1 in
       record { ases = a.count; links = sym (count ws); few_ases = a.few_ases; few_links = a.few_links }
 
-  -- the ASes that were listed
-  pub Listed-Network : {l u : List ℕ} {r : ℕ} → Listed (ases_of (links_of ws)) l u r → Network ws (take n u)
-  Listed-Network {l} {u} {r} h =
-      let front : take n u ≡ ases_of (links_of ws) = ap (take n) h.words ∙ take_at (ases_of (links_of ws)) _ n (sym counts.ases) in
-      record {
-        ases = front;
-        few_ases = omega (arith, ap length front, counts.ases, counts.few_ases);
-        few_links = counts.few_links;
-      }
+-- the ASes of accepted links, as a list
+module _ {ws us : List ℕ} {n : ℕ} (l : us ≡ ases_of (links_of ws)) (e : check_words base_limits ws ≡ Ok n) where
+  pub accepted_Network : Network ws us
+  accepted_Network = record { ases = l; few_ases = omega (arith, ap length l, (counts e).ases, (counts e).few_ases); few_links = (counts e).few_links }
+
+pub few_named : (ws us : List ℕ) (n : ℕ) → us ≡ ases_of (links_of ws) → check_words base_limits ws ≡ Ok n → length us ≤ 512
+few_named ws us n l e = (accepted_Network l e).few_ases
+
+pub count_named : (ws : List ℕ) (n : ℕ) → check_words base_limits ws ≡ Ok n → (n ≡ length (ases_of (links_of ws))) × (n ≤ 512)
+count_named ws n e = ((counts e).ases, (counts e).few_ases)
+
+pub count_links : (ws : List ℕ) (n : ℕ) → check_words base_limits ws ≡ Ok n → (length ws / 3 ≡ length (links_of ws)) × (length (links_of ws) ≤ 1536)
+count_links ws n e = ((counts e).links, (counts e).few_links)
+
+pub ruleset network_facts = (few_named, count_named, count_links)
 
 module _ {ws us : List ℕ} (n : Network ws us) where
   pub ascending : Ascending us

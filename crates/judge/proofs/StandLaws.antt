@@ -8,9 +8,10 @@ use native.Mathlib.Omega.{arith}
 use lib.Dec.{eqb}
 use lib.ListN.{length, take, drop}
 use lib.Seq.{take_all, take_at}
-use borrow.Author.Tests.{eqb-true, eqb-false}
-use Rattle.std.specs.Prelude.{Ok}
+use borrow.Author.Tests.{eqb-true, eqb-false, eq-eqb, ne_eqb}
+use Rattle.std.specs.Prelude.{Err, Ok}
 use Rattle.rules.specs.Replies.{Verdict}
+use Rattle.rules.specs.declared.Refusal.{Refusal}
 use Rattle.rules.specs.declared.Refusal.TheVariants.{CannotStand}
 use Rattle.rules.specs.Lists.{In, Distinct}
 use Rattle.rules.specs.Entry.{and_then, unless}
@@ -20,9 +21,9 @@ use Rattle.rules.proofs.JudgeLaws.{stands_is, standing_numbers}
 use Rattle.rules.proofs.EntryLaws.{entries_words, length_words}
 use Rattle.rules.proofs.VerdictLaws.{test_passes, then_passes}
 use Rattle.rules.proofs.Tests.{clash}
-use Rattle.sheet.specs.Form.{count_of_lines, lines_from, lines_of}
+use Rattle.sheet.specs.Form.{fault_of_form, count_of_lines, lines_from, lines_of}
 use Rattle.sheet.specs.Places.{over}
-use Rattle.sheet.proofs.FormLaws.{length-lines_from, lines_take}
+use Rattle.sheet.proofs.FormLaws.{formed, length-lines_from, lines_take}
 use Rattle.sheet.proofs.StandingLaws.{same_count, standing_shorter}
 use Rattle.judge.specs.Steps.{Told}
 
@@ -60,6 +61,22 @@ pub lines_judged : (bound : ℕ) (us s : List ℕ) (k : ℕ) (old : List ℕ) {t
 lines_judged bound us s k old {t} {v} h e f =
     let read : entries_of (take (4 * k) t) ≡ lines_from k (drop 10 s) = ap entries_of (front_words k (drop 10 s) old e) ∙ entries_words (lines_from k (drop 10 s)) in
     rw (f, read) (by_counts bound us s k h)
+
+-- .. as the judge finds it
+module _ (bound : ℕ) (us s old t : List ℕ) (k : ℕ) (h : k ≡ min (length us) (count_of_lines s)) (e : t ≡ over (words_of (lines_from k (drop 10 s))) old) where
+  pub lines_refused : (r : Refusal) → standing bound (take k us) (entries_of (take (4 * k) t)) ≡ Err r → standing bound us (lines_of s) ≡ Err r
+  lines_refused r f = sym (lines_judged bound us s k old h e (sym f))
+
+  pub lines_whole : standing bound (take k us) (entries_of (take (4 * k) t)) ≡ Ok tt → count_of_lines s ≡ length us → standing bound us (lines_of s) ≡ Ok tt
+  lines_whole f same = sym (rw (eq-eqb _ _ same) at (lines_judged bound us s k old h e (sym f)))
+
+  pub lines_short : standing bound (take k us) (entries_of (take (4 * k) t)) ≡ Ok tt → count_of_lines s ≢ length us → standing bound us (lines_of s) ≡ Err (CannotStand k)
+  lines_short f other = sym (rw (ne_eqb _ _ other) at (lines_judged bound us s k old h e (sym f)))
+
+pub formed_whole : (s : List ℕ) → fault_of_form s ≡ Ok tt → length s ≡ 10 + 11 * count_of_lines s
+formed_whole s e = (let f = formed s e in omega (arith, f.size, f.whole))
+
+pub ruleset lines_order = (lines_refused, lines_whole, lines_short, formed_whole)
 
 -- Lines that stand ---------------------------------------------------------------------------------------------------------
 

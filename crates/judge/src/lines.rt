@@ -1,48 +1,49 @@
 // Refusals 7, 11 and 12 of a sheet of right form.
-ghost use Rattle.std.specs.Prelude.{◌*◌, ◌≤◌, ◌<◌, min, ◌≡◌, length, drop, Ok};
-ghost use Rattle.rules.specs.Network.{links_of};
+ghost use Rattle.std.specs.Prelude.{◌*◌, ◌≤◌, min, ◌≡◌, length, drop, Ok};
+ghost use Rattle.rules.specs.Network.{links_of, ases_of};
 ghost use Rattle.rules.specs.Judge.{words_of, standing};
 ghost use Rattle.sheet.specs.Form.{fault_of_form, count_of_lines, lines_from, lines_of};
 ghost use Rattle.sheet.specs.Places.{over};
-ghost use Rattle.judge.specs.Steps.{fault_of_lines, Network};
+ghost use Rattle.judge.specs.Steps.{fault_of_lines};
 
-use super::best;
+use super::best::Printed;
+use network::Network;
 use rules::Refusal;
 use sheet::rows::WORDS_PER_LINE;
-use sheet::{reading, standing};
+use sheet::{LONGEST, reading, standing};
 
-// Refusals 7, 11 and 12 of a sheet for a network with these ASes.
-pub fn judge_lines(words: &[u32], ases: &[u32], sheet: &[u8], bound: u32) -> Result<(), Refusal>
-    requires { Network words.now ases.now × (fault_of_form sheet.now ≡ Ok tt) × (bound < 4294967295) }
-    ensures { result ≡ fault_of_lines bound (links_of words.now) sheet.now }
+/// Refusals 7, 11 and 12 of a sheet for a network with these ASes.
+#[tactic(auto, using(std::proofs::lemmas::Grind::common_steps, sheet::proofs::WriteLaws::draft_order, crate::proofs::NetworkLaws::network_facts))]
+pub fn judge_lines(network: Network<'_>, ases: &[u32], sheet: &[u8]) -> Result<(), Refusal>
+    requires { (ases.now ≡ ases_of (links_of network.words.now)) × (fault_of_form sheet.now ≡ Ok tt) }
+    ensures { result ≡ fault_of_lines 511 (links_of network.entry.words.now) sheet.now }
 {
-    let n = ases.len();
-    let Some(at) = network::place_of(ases, n, reading::destination(sheet)) else {
-        return Err(Refusal::NoDestination);
-    };
+    let place = network::place_of(ases, ases.len(), reading::destination(sheet));
+    let at = place.ok_or(Refusal::NoDestination)?;
     let mut told = [0u32; 2048];
-    let stand = lines_stand(ases, sheet, bound, &mut told);
-    let Ok(()) = stand else {
-        return stand;
+    put_lines(ases, sheet, &mut told)?;
+    let printed = Printed {
+        network,
+        ases,
+        lines: &told[..WORDS_PER_LINE * ases.len()],
     };
-    best::judge_offers(words, ases, &told[..WORDS_PER_LINE * n], at)
+    printed.judge(at)
 }
 
-// Refusal 11, and the sheet's lines as table words, up to the shorter count: missing or surplus lines have it as place.
-fn lines_stand(ases: &[u32], sheet: &[u8], bound: u32, told: &mut [u32]) -> Result<(), Refusal>
+/// Refusal 11, and the sheet's lines as table words, up to the shorter count: missing or surplus lines have it as place.
+#[tactic(auto, using(std::proofs::lemmas::Grind::common_steps, crate::proofs::StandLaws::lines_order))]
+fn put_lines(ases: &[u32], sheet: &[u8], told: &mut [u32]) -> Result<(), Refusal>
     requires { (fault_of_form sheet.now ≡ Ok tt) × (4 * length ases.now ≤ length told.old) }
-    ensures reply { result ≡ standing bound ases.now (lines_of sheet.now) }
+    ensures reply { result ≡ standing 511 ases.now (lines_of sheet.now) }
     ensures lines { told.new ≡ over (words_of (lines_from (min (length ases.now) (count_of_lines sheet.now)) (drop 10 sheet.now))) told.old }
 {
     let count = reading::line_count(sheet);
     let k = standing::shorter(ases.len(), count);
     reading::read_lines(sheet, k, told);
-    let fault = standing::lines_fault(&ases[..k], &told[..WORDS_PER_LINE * k], bound);
-    let Ok(()) = fault else {
-        return fault;
-    };
+    standing::lines_fault(&ases[..k], &told[..WORDS_PER_LINE * k], LONGEST)?;
     if count == ases.len() {
-        return Ok(());
+        Ok(())
+    } else {
+        Err(Refusal::CannotStand(k))
     }
-    Err(Refusal::CannotStand(k))
 }

@@ -2,22 +2,20 @@
 -- definition does with eleven bytes computes.
 use Prim.Native.Nat.{ℕ, zero, suc, ◌+◌, ◌-◌, ◌*◌, ◌%◌, ◌≤◌, ◌<◌}
 use mathlib.Core.Path.{◌≡◌, refl, sym, ap, ap₂, ◌∙◌}
-use mathlib.Core.Bool.{Bool, true, false, cond, ◌&&◌}
+use mathlib.Core.Bool.{◌&&◌}
 use mathlib.Core.List.{List, [], ◌∷◌, ◌++◌}
 use native.Mathlib.Numerals.{add-one}
 use native.Mathlib.Nat.{add-zero, add_assoc}
 use native.Mathlib.Omega.{arith}
-use borrow.Author.Tests.{le-leb, lt-leb, eq-eqb, eqb-true}
+use borrow.Author.Tests.{lt-leb, eq-eqb}
 use lib.Dec.{leb, eqb}
 use lib.ListN.{length, get_or, take, drop, length-drop, drop_of_length-le}
 use lib.Seq.{drop-cons, get_or-drop}
-use Rattle.std.specs.Prelude.{Err, Ok}
+use Rattle.std.specs.Prelude.{Ok}
 use Rattle.rules.specs.Replies.{Verdict}
-use Rattle.rules.specs.declared.Refusal.TheVariants.{BrokenForm}
-use Rattle.rules.specs.Entry.{and_then}
 use Rattle.rules.specs.Judge.{Entry, entry}
-use Rattle.rules.proofs.Tests.{by_cond, and_left, and_right, tests}
-use Rattle.rules.proofs.VerdictLaws.{test_passes, then_assoc, not_refused}
+use Rattle.rules.proofs.Tests.{and_left, and_right, tests}
+use Rattle.rules.proofs.VerdictLaws.{test_passes, not_refused}
 use Rattle.sheet.specs.Form.{bytes2, bytes4, word2, word4, line_bytes, lines_bytes, needs, fault_of_length, fault_of_form, count_of_lines, lines_from}
 use Rattle.sheet.specs.Places.{line_from, entry_line}
 use Rattle.sheet.specs.Sizes.{Below, Fitting, Fits}
@@ -125,44 +123,6 @@ needs_met s i value next e =
     let p = not_refused (leb (length s) i) _ _ e in
     let q = test_passes (eqb (get_or s i 0) value) _ _ p.1 in
     (omega (tests, p.0), omega (tests, q.0), q.1)
-
--- what bytes 8 and 9 get
-pub length_short : (s : List ℕ) → length s < 10 → Err (BrokenForm (length s)) ≡ fault_of_length s
-unfolding fault_of_length
-length_short s h = simp (le-leb (length s) 9 (omega arith))
-
-pub length_right : (s : List ℕ) → 9 < length s → word2 s 8 % 11 ≡ 0 → word2 s 8 ≡ length s - 10 → Ok tt ≡ fault_of_length s
-unfolding fault_of_length
-length_right s h m e = simp (lt-leb (length s) 9 h, eq-eqb (word2 s 8 % 11) 0 m, eq-eqb (word2 s 8) (length s - 10) e)
-
-pub length_wrong : (s : List ℕ) → 9 < length s → (word2 s 8 % 11 ≡ 0 → word2 s 8 ≡ length s - 10 → ⊥) → Err (BrokenForm 8) ≡ fault_of_length s
-unfolding fault_of_length
-length_wrong s h wrong =
-    let whole = eqb (word2 s 8 % 11) 0 in
-    let all = eqb (word2 s 8) (length s - 10) in
-    rw (lt-leb (length s) 9 h)
-    (by_cond (λ (v : Verdict). Err (BrokenForm 8) ≡ v) (whole && all) _ _
-    (λ e. absurd (wrong (eqb-true _ _ (and_left whole all e)) (eqb-true _ _ (and_right whole all e)))) (λ e. refl))
-
--- the checks of form one after the other
-needs_then : (s : List ℕ) (i value : ℕ) (next : Verdict) → and_then (needs s i value (Ok tt)) next ≡ needs s i value next
-needs_then s i value next = go (leb (length s) i) (eqb (get_or s i 0) value)
-  where
-    go : (p q : Bool) → and_then (cond p (Err (BrokenForm (length s))) (cond q (Ok tt) (Err (BrokenForm i)))) next
-        ≡ cond p (Err (BrokenForm (length s))) (cond q next (Err (BrokenForm i)))
-    go true q = refl
-    go false true = refl
-    go false false = refl
-
-pub form_in_order : (s : List ℕ) (u v w x r : Verdict) → u ≡ needs s 0 1 (Ok tt) → v ≡ and_then u (needs s 1 0 (Ok tt)) → w ≡ and_then v (needs s 2 4 (Ok tt))
-    → x ≡ and_then w (needs s 7 2 (Ok tt)) → r ≡ and_then x (fault_of_length s) → r ≡ fault_of_form s
-unfolding fault_of_form
-form_in_order s u v w x r pu pv pw px pr =
-    let a = needs_then s 7 2 (fault_of_length s) in
-    let b = needs_then s 2 4 (needs s 7 2 (fault_of_length s)) in
-    let c = needs_then s 1 0 (needs s 2 4 (needs s 7 2 (fault_of_length s))) in
-    let d = needs_then s 0 1 (needs s 1 0 (needs s 2 4 (needs s 7 2 (fault_of_length s)))) in
-    pr ∙ rw (px, pw, pv, pu) (simp (then_assoc, a, b, c, d))
 
 pub formed : (s : List ℕ) → fault_of_form s ≡ Ok tt → Formed s
 unfolding fault_of_form fault_of_length

@@ -1,12 +1,12 @@
 -- Numbers as bytes, high byte first, and back, wherever they stand in a list. Division by 256 carries all of it; a place in a list is
 -- moved to the front by dropping what is before it.
 use Prim.Native.Nat.{ℕ, ◌+◌, ◌*◌, ◌/◌, ◌%◌, ◌<◌}
-use mathlib.Core.Path.{◌≡◌, refl, sym, ap, ◌∙◌}
+use mathlib.Core.Path.{◌≡◌}
 use mathlib.Core.List.{List, [], ◌∷◌, ◌++◌}
-use native.Mathlib.Nat.{add_assoc, add-zero}
+use native.Mathlib.Nat.{add_assoc}
 use native.Mathlib.Omega.{arith}
-use lib.ListN.{length, get_or, drop}
-use lib.Seq.{get_or-drop, drop_at}
+use lib.ListN.{get_or, drop}
+use lib.Seq.{get_or-drop}
 use Rattle.sheet.specs.Form.{bytes2, bytes4, word2, word4}
 use Rattle.sheet.specs.Sizes.{Below}
 
@@ -16,12 +16,6 @@ word2-drop k s i = rw (get_or-drop k s i 0, get_or-drop k s (i + 1) 0, add_assoc
 
 pub word4-drop : (k : ℕ) (s : List ℕ) (i : ℕ) → word4 (drop k s) i ≡ word4 s (k + i)
 word4-drop k s i = rw (word2-drop k s i, word2-drop k s (i + 2), add_assoc k i 2)
-
-word2-append : (p t : List ℕ) → word2 t 0 ≡ word2 (p ++ t) (length p)
-word2-append p t = ap (λ (u : List ℕ). word2 u 0) (sym (drop_at p t (length p) refl)) ∙ word2-drop (length p) (p ++ t) 0 ∙ rw (add-zero (length p))
-
-word4-append : (p t : List ℕ) → word4 t 0 ≡ word4 (p ++ t) (length p)
-word4-append p t = ap (λ (u : List ℕ). word4 u 0) (sym (drop_at p t (length p) refl)) ∙ word4-drop (length p) (p ++ t) 0 ∙ rw (add-zero (length p))
 
 pub Below-drop : (k : ℕ) (bound : ℕ) (s : List ℕ) → Below bound s → Below bound (drop k s)
 Below-drop k bound s b i = rw (get_or-drop k s i 0) (b (k + i))
@@ -36,13 +30,6 @@ word4-bytes4 x r h =
     let high : 256 * (x / 16777216 % 256) + x / 65536 % 256 ≡ x / 65536 = omega arith in
     let low : 256 * (x / 256 % 256) + x % 256 ≡ x % 65536 = omega arith in
     omega arith
-
--- .. and wherever they stand
-pub word2_within : (p : List ℕ) (x : ℕ) (r : List ℕ) → x < 65536 → word2 (p ++ (bytes2 x ++ r)) (length p) ≡ x
-word2_within p x r h = sym (word2-append p (bytes2 x ++ r)) ∙ word2-bytes2 x r h
-
-pub word4_within : (p : List ℕ) (x : ℕ) (r : List ℕ) → x < 4294967296 → word4 (p ++ (bytes4 x ++ r)) (length p) ≡ x
-word4_within p x r h = sym (word4-append p (bytes4 x ++ r)) ∙ word4-bytes4 x r h
 
 -- the bytes of the number that bytes say
 pub bytes2-word2 : (s : List ℕ) (i : ℕ) → Below 256 s → bytes2 (word2 s i) ≡ get_or s i 0 ∷ get_or s (i + 1) 0 ∷ []

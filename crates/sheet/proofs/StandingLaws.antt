@@ -1,6 +1,6 @@
 -- What it says of lines that they all stand, and the check by the shorter count. By cases on the two lists side by side.
 use Prim.Native.Nat.{ℕ, zero, suc, ◌+◌, ◌*◌, ◌/◌, ◌≤◌, ◌<◌, min}
-use mathlib.Core.Path.{◌≡◌, refl, ap}
+use mathlib.Core.Path.{◌≡◌, refl, ap, ◌∙◌}
 use mathlib.Core.Logic.{◌≢◌}
 use mathlib.Core.Bool.{Bool, true, false, cond}
 use mathlib.Core.List.{List, [], ◌∷◌}
@@ -10,9 +10,11 @@ use native.Mathlib.Omega.{arith}
 use lib.Dec.{eqb}
 use lib.ListN.{length, get_or, take, drop, length-drop, drop_of_length-le}
 use lib.Seq.{drop-cons, take_all}
-use borrow.Author.Tests.{eqb-true, eqb-false, ne_eqb}
-use Rattle.std.specs.Prelude.{Err, Ok}
+use borrow.Author.Tests.{eqb-true, eqb-false, eq-eqb, ne_eqb}
+use Rattle.std.specs.Prelude.{Err, Ok, Option, Some, None}
+use Rattle.network.specs.Promises.{Stands}
 use Rattle.rules.specs.Replies.{Verdict}
+use Rattle.rules.specs.declared.Refusal.{Refusal}
 use Rattle.rules.specs.declared.Refusal.TheVariants.{NoDestination, CannotStand}
 use Rattle.rules.specs.Entry.{and_then, unless, fault_of_destination}
 use Rattle.rules.specs.Judge.{Entry, entry, entries_of, stands, standing_from, standing}
@@ -49,20 +51,34 @@ standing_Fits bound i (u ∷ us) (a ∷ t ∷ l ∷ n ∷ ws) b w h =
     )
 
 -- the check from line i on
-abbrev pub standing_at : ℕ → List ℕ → List ℕ → ℕ → Verdict
+unfoldable pub standing_at : ℕ → List ℕ → List ℕ → ℕ → Verdict
 standing_at bound us ws i = standing_from bound i (drop i us) (entries_of (drop (4 * i) ws))
 
--- .. by what line i gives
-pub standing_next : (bound : ℕ) (us ws : List ℕ) (i : ℕ) (e : Entry) (r : Bool) → i < length us → 4 * i + 4 ≤ length ws → e ≡ entry_at ws i
-    → r ≡ stands bound (get_or us i 0) e → standing_at bound us ws i ≡ cond r (standing_at bound us ws (i + 1)) (Err (CannotStand i))
-unfolding standing_from
-standing_next bound us ws i e r h g line test = rw (drop-cons us i 0 h, entries_next ws i g, add-one i, test, line)
+pub standing_at-all : (bound : ℕ) (us ws : List ℕ) → standing_at bound us ws 0 ≡ standing bound us (entries_of ws)
+unfolding standing_at
+standing_at-all bound us ws = refl
 
-pub standing_end : (bound : ℕ) (us ws : List ℕ) (i : ℕ) → length us ≤ i → length ws < 4 * i + 4 → standing_at bound us ws i ≡ Ok tt
-unfolding standing_from
-standing_end bound us ws i h g =
+-- .. by what line i gives
+line_stands : (bound : ℕ) (us ws : List ℕ) (i : ℕ) → i < length us → 4 * i + 4 ≤ length ws
+    → standing_at bound us ws i ≡ cond (stands bound (get_or us i 0) (entry_at ws i)) (standing_at bound us ws (i + 1)) (Err (CannotStand i))
+unfolding standing_at standing_from
+line_stands bound us ws i h g = rw (drop-cons us i 0 h, entries_next ws i g, add-one i)
+
+pub standing_at-next : (bound : ℕ) (us ws : List ℕ) (i : ℕ) → i < length us → 4 * i + 4 ≤ length ws → stands bound (get_or us i 0) (entry_at ws i) ≡ true
+    → standing_at bound us ws i ≡ standing_at bound us ws (i + 1)
+standing_at-next bound us ws i h g e = rw e at (line_stands bound us ws i h g)
+
+pub standing_at-refused : (bound : ℕ) (us ws : List ℕ) (i : ℕ) → i < length us → 4 * i + 4 ≤ length ws → stands bound (get_or us i 0) (entry_at ws i) ≡ false
+    → standing_at bound us ws i ≡ Err (CannotStand i)
+standing_at-refused bound us ws i h g e = rw e at (line_stands bound us ws i h g)
+
+pub standing_at-end : (bound : ℕ) (us ws : List ℕ) (i : ℕ) → length us ≤ i → length ws < 4 * i + 4 → standing_at bound us ws i ≡ Ok tt
+unfolding standing_at standing_from
+standing_at-end bound us ws i h g =
     let few : length (drop (4 * i) ws) < 4 = simp length-drop (omega arith) in
     rw (drop_of_length-le us h, entries_few (drop (4 * i) ws) few)
+
+pub ruleset standing_steps = (standing_at-all, standing_at-next, standing_at-refused, standing_at-end)
 
 -- 'Missing or surplus lines: place is the shorter count'
 pub standing_shorter : (bound i k : ℕ) (us : List ℕ) (es : List Entry) → k ≡ min (length us) (length es) → length us ≢ length es
@@ -107,9 +123,27 @@ table_in_order bound us ws k h = rw (entries_take k ws) (go (eqb (length us) (le
         let wrong = ne_eqb (length ws) (4 * length us) (λ q. eqb-false (length us) (length es) e (omega (arith, length_entries ws))) in
         rw (short, wrong, place) (then_assoc (standing bound (take k us) (take k es)) (Err (CannotStand k)) _)
 
--- the destination's place, or none, in the list of ASes
-pub destination_there : (d i : ℕ) (us : List ℕ) → i < length us → get_or us i 0 ≡ d → Ok tt ≡ fault_of_destination d us
-destination_there d i us h e = rw (member_yes d us (rw e at (at_in 0 us i h)))
+-- .. as the writer finds it
+module _ (bound : ℕ) (us ws : List ℕ) (k : ℕ) (h : k ≡ min (length us) (length ws / 4)) where
+  pub table_refused : (r : Refusal) → standing bound (take k us) (entries_of (take (4 * k) ws)) ≡ Err r → fault_of_table bound us ws ≡ Err r
+  table_refused r e = table_in_order bound us ws k h ∙ rw e
 
-pub destination_none : (d : ℕ) (us : List ℕ) → ((i : ℕ) → i < length us → get_or us i 0 ≢ d) → Err NoDestination ≡ fault_of_destination d us
-destination_none d us none = rw (member_no d us (λ m. (let (i, h, e) = in_at 0 us d m in none i h e)))
+  pub table_stands : standing bound (take k us) (entries_of (take (4 * k) ws)) ≡ Ok tt → length ws ≡ 4 * length us → fault_of_table bound us ws ≡ Ok tt
+  table_stands e whole = table_in_order bound us ws k h ∙ rw (e, eq-eqb (length ws) (4 * length us) whole)
+
+  pub table_short : standing bound (take k us) (entries_of (take (4 * k) ws)) ≡ Ok tt → length ws ≢ 4 * length us → fault_of_table bound us ws ≡ Err (CannotStand k)
+  table_short e other = table_in_order bound us ws k h ∙ rw (e, ne_eqb (length ws) (4 * length us) other)
+
+pub ruleset table_order = (table_refused, table_stands, table_short)
+
+-- the destination's place, or none, in the list of ASes
+module _ (d : ℕ) (us : List ℕ) (p : Option ℕ) (h : Stands us (length us) d p) where
+  pub destination_there : (i : ℕ) → p ≡ Some i → (fault_of_destination d us ≡ Ok tt) × (i < length us) × (get_or us i 0 ≡ d)
+  destination_there i e =
+      let s = rw e at h in
+      (rw (member_yes d us (rw s.1 at (at_in 0 us i s.0))), s.0, s.1)
+
+  pub destination_none : p ≡ None → fault_of_destination d us ≡ Err NoDestination
+  destination_none e =
+      let s = rw e at h in
+      rw (member_no d us (λ m. (let (i, b, q) = in_at 0 us d m in s i b q)))

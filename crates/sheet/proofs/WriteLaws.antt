@@ -3,22 +3,27 @@ use Prim.Native.Nat.{ℕ, ◌+◌, ◌*◌, ◌≤◌}
 use mathlib.Core.Path.{◌≡◌, refl, sym, ap, ◌∙◌}
 use mathlib.Core.List.{List}
 use lib.Dec.{leb, eqb}
-use lib.ListN.{length}
-use Rattle.rules.specs.Replies.{Verdict}
-use Rattle.std.specs.Prelude.{Err, Ok, Result}
+use native.Mathlib.Omega.{arith}
+use lib.ListN.{length, take}
+use lib.Seq.{take-length, take_at}
+use Rattle.std.specs.Prelude.{Err, Ok}
 use Rattle.rules.specs.declared.Limits.{Limits}
 use Rattle.rules.specs.declared.Refusal.{Refusal}
 use Rattle.rules.specs.Network.{links_of, ases_of}
-use Rattle.rules.specs.Checks.{check_words}
-use Rattle.rules.specs.Entry.{and_then, verdict_of, fault_of_links, fault_of_destination, filled}
+use Rattle.rules.specs.Checks.{base_limits, check_words}
+use Rattle.rules.specs.Ascending.{Ascending}
+use Rattle.rules.specs.declared.Link.{Link}
+use Rattle.rules.proofs.AcceptedLinks.{check_words-Accepted}
+use Rattle.rules.proofs.NetworkLaws.{ases_Ascending}
+use Rattle.rules.specs.Entry.{and_then, fault_of_links, fault_of_destination, filled}
 use Rattle.rules.specs.Judge.{entries_of, standing}
 use Rattle.rules.proofs.Tests.{tests}
 use Rattle.rules.proofs.VerdictLaws.{both_pass, test_passes}
 use Rattle.sheet.specs.Form.{sheet_of}
-use Rattle.sheet.specs.Places.{over}
 use Rattle.sheet.specs.Entries.{fault_of_table, fault_of_writing, reply_with, write_reply, final_bytes}
-use Rattle.sheet.specs.Writing.{fault_of_sheet, Wrote}
-use Rattle.sheet.proofs.StandingLaws.{same_count}
+use Rattle.sheet.specs.Writing.{fault_of_sheet}
+use Rattle.sheet.proofs.StandingLaws.{same_count, destination_there, destination_none}
+use Rattle.network.specs.Promises.{Listed}
 
 -- a table that stands for the ASes us, and room for its sheet
 pub record Writable (bound : ℕ) (us table : List ℕ) (room : ℕ) : Type 0 where
@@ -48,46 +53,41 @@ pub links_first : (limits : Limits) (bound : ℕ) (ws : List ℕ) (d : ℕ) (tab
 unfolding fault_of_writing fault_of_sheet
 links_first limits bound ws d table room = refl
 
--- the bytes and the reply, by the verdict
-pub wrote : (bound : ℕ) (us : List ℕ) (d : ℕ) (table old bytes : List ℕ) → fault_of_sheet bound us d table (length old) ≡ Ok tt
-    → bytes ≡ over (sheet_of d (entries_of table)) old → Wrote bound us d table old bytes (Ok (10 + 11 * length us))
-wrote bound us d table old bytes e b =
-    record {
-      reply = sym (ap (λ (v : Verdict). reply_with v (10 + 11 * length us)) e);
-      sheet = b ∙ sym (ap (λ (v : Verdict). filled v (sheet_of d (entries_of table)) old) e);
-    }
+-- What the writer's steps find ---------------------------------------------------------------------------------------------
 
-pub not_written : (bound : ℕ) (us : List ℕ) (d : ℕ) (table old : List ℕ) (r : Refusal) → fault_of_sheet bound us d table (length old) ≡ Err r
-    → Wrote bound us d table old old (Err r)
-not_written bound us d table old r e =
-    record {
-      reply = sym (ap (λ (v : Verdict). reply_with v (10 + 11 * length us)) e);
-      sheet = sym (ap (λ (v : Verdict). filled v (sheet_of d (entries_of table)) old) e);
-    }
+-- the ASes of links ascend, all of them
+pub whole_Ascending : (us : List ℕ) (ls : List Link) → us ≡ ases_of ls → Ascending (take (length us) us)
+whole_Ascending us ls e = rw (take-length us, e) (ases_Ascending ls)
 
--- .. for the links
-module _ (limits : Limits) (bound : ℕ) (ws : List ℕ) (d : ℕ) (table bytes : List ℕ) where
-  after_links : (c : Result ℕ Refusal) → check_words limits ws ≡ c
-      → and_then (verdict_of c) (fault_of_sheet bound (ases_of (links_of ws)) d table (length bytes)) ≡ fault_of_writing limits bound ws d table (length bytes)
-  after_links c e =
-      sym (links_first limits bound ws d table (length bytes)
-      ∙ ap (λ (c : Result ℕ Refusal). and_then (verdict_of c) (fault_of_sheet bound (ases_of (links_of ws)) d table (length bytes))) e)
+pub ruleset draft_order = (whole_Ascending, destination_there, destination_none)
 
-  pub write_accepted : (after : List ℕ) (n : ℕ) (r : Result ℕ Refusal) → check_words limits ws ≡ Ok n
-      → Wrote bound (ases_of (links_of ws)) d table bytes after r
-      → (r ≡ write_reply limits bound ws d table (length bytes)) × (after ≡ final_bytes limits bound ws d table bytes)
-  unfolding write_reply final_bytes
-  write_accepted after n r e w =
-      let fault = after_links (Ok n) e in (
-        w.reply ∙ ap (λ (v : Verdict). reply_with v (10 + 11 * length (ases_of (links_of ws)))) fault,
-        w.sheet ∙ ap (λ (v : Verdict). filled v (sheet_of d (entries_of table)) bytes) fault,
-      )
+-- accepted links name few ASes, which were listed
+pub accepted_few : (ws : List ℕ) (n : ℕ) → check_words base_limits ws ≡ Ok n → length (ases_of (links_of ws)) ≤ 512
+accepted_few ws n e = (let a = (check_words-Accepted base_limits ws n e).1 in omega (arith, a.count, a.few_ases))
 
-  pub write_refused : (r : Refusal) → check_words limits ws ≡ Err r
-      → (Err r ≡ write_reply limits bound ws d table (length bytes)) × (bytes ≡ final_bytes limits bound ws d table bytes)
-  unfolding write_reply final_bytes
-  write_refused r e =
-      let fault = after_links (Err r) e in (
-        ap (λ (v : Verdict). reply_with v (10 + 11 * length (ases_of (links_of ws)))) fault,
-        ap (λ (v : Verdict). filled v (sheet_of d (entries_of table)) bytes) fault,
-      )
+pub listed_front : (out l u : List ℕ) (n : ℕ) → Listed out l u n → take n u ≡ out
+listed_front out l u n h = ap (take n) h.words ∙ take_at out _ n (sym h.count)
+
+-- the reply and the bytes after links that are refused, and after links that are accepted
+module _ (bound : ℕ) (ws : List ℕ) (d : ℕ) (table bytes : List ℕ) where
+  pub reply_refused : (r : Refusal) → check_words base_limits ws ≡ Err r → write_reply base_limits bound ws d table (length bytes) ≡ Err r
+  unfolding write_reply fault_of_writing
+  reply_refused r e = rw e
+
+  pub bytes_refused : (r : Refusal) → check_words base_limits ws ≡ Err r → final_bytes base_limits bound ws d table bytes ≡ bytes
+  unfolding final_bytes fault_of_writing
+  bytes_refused r e = rw e
+
+  pub reply_accepted : (n : ℕ) → check_words base_limits ws ≡ Ok n
+      → write_reply base_limits bound ws d table (length bytes)
+      ≡ reply_with (fault_of_sheet bound (ases_of (links_of ws)) d table (length bytes)) (10 + 11 * length (ases_of (links_of ws)))
+  unfolding write_reply fault_of_writing fault_of_sheet
+  reply_accepted n e = rw e
+
+  pub bytes_accepted : (n : ℕ) → check_words base_limits ws ≡ Ok n
+      → final_bytes base_limits bound ws d table bytes
+      ≡ filled (fault_of_sheet bound (ases_of (links_of ws)) d table (length bytes)) (sheet_of d (entries_of table)) bytes
+  unfolding final_bytes fault_of_writing fault_of_sheet
+  bytes_accepted n e = rw e
+
+pub ruleset entry_order = (accepted_few, listed_front, reply_refused, bytes_refused, reply_accepted, bytes_accepted)

@@ -5,7 +5,9 @@ ghost use Rattle.std.specs.Prelude.{◌≡◌, length};
 ghost use Rattle.rules.specs.Checks.{base_limits};
 ghost use Rattle.sheet.specs.Entries.{read_reply, final_table, write_reply, final_bytes};
 
-use rules::{Limits, Refusal};
+use network::Network;
+use rules::Refusal;
+use writing::Draft;
 
 mod numbers;
 pub mod reading;
@@ -13,41 +15,56 @@ pub mod rows;
 pub mod standing;
 pub mod writing;
 
-// The bytes before the lines: tag and length, the destination, tag and length.
+/// The bytes before the lines: tag and length, the destination, tag and length.
 pub const HEAD_BYTES: usize = 10;
 
-// Bytes per line: AS, type, length, next hop.
+/// Bytes per line: AS, type, length, next hop.
 pub const BYTES_PER_LINE: usize = 11;
 
-// The longest length that a line can have.
+/// The longest length that a line can have.
 pub const LONGEST: u32 = 511;
 
-// What reading a sheet gives: the destination and the number of lines.
+/// What reading a sheet gives: the destination and the number of lines.
 #[derive(Clone, Copy, Debug, PartialEq, Eq)]
 pub struct SheetRead {
     pub destination: u32,
     pub lines: usize,
 }
 
-// Reads a sheet into table words, four per line: refusals 1, 10, 8. Words beyond the last line stay as they were.
+/// Reads a sheet into table words, four per line: refusals 1, 10, 8. Words beyond the last line stay as they were.
 pub fn read_sheet(sheet: &[u8], table: &mut [u32]) -> Result<SheetRead, Refusal>
     ensures reply { result ≡ read_reply base_limits sheet.now (length table.old) }
     ensures table { table.new ≡ final_table base_limits sheet.now table.old }
 {
-    reading::read_within(Limits::BASE, sheet, table)
+    reading::check(sheet, table.len())?;
+    let lines = reading::line_count(sheet);
+    reading::read_lines(sheet, lines, table);
+    Ok(SheetRead {
+        destination: reading::destination(sheet),
+        lines,
+    })
 }
 
-// Writes the sheet of a table for a network: the number of its bytes, or refusals 1, 2 to 6, 7, 11, 8. Bytes beyond the sheet stay as they
-// were.
-pub fn write_sheet(words: &[u32], destination: u32, table: &[u32], bytes: &mut [u8]) -> Result<usize, Refusal>
+/// Writes the sheet of a table for a network: the number of its bytes, or refusals 1, 2 to 6, 7, 11, 8. Bytes beyond the sheet stay as they
+/// were.
+#[tactic(auto, using(std::proofs::lemmas::Grind::common_steps, crate::proofs::WriteLaws::entry_order))]
+pub fn write_sheet(
+    words: &[u32],
+    destination: u32,
+    table: &[u32],
+    bytes: &mut [u8],
+) -> Result<usize, Refusal>
     ensures reply { result ≡ write_reply base_limits 511 words.now destination table.now (length bytes.old) }
     ensures bytes { bytes.new ≡ final_bytes base_limits 511 words.now destination table.now bytes.old }
 {
-    let checked = network::check_links(words);
-    let Ok(_) = checked else {
-        return checked;
-    };
+    let network = Network::check(words)?;
     let mut ases = [0u32; 512];
     let n = network::list_ases(words, &mut ases);
-    writing::write_for(&ases[..n], destination, table, LONGEST, bytes)
+    let draft = Draft {
+        network,
+        ases: &ases[..n],
+        destination,
+        table,
+    };
+    draft.write(bytes)
 }

@@ -4,11 +4,11 @@ ghost use Rattle.std.proofs.lemmas.List.Edits.{sets};
 ghost use Rattle.rules.specs.Judge.{words_of, stands};
 ghost use Rattle.sheet.specs.Places.{entry_of, entry_at};
 
-// Words per line: AS, type, length, next hop.
+/// Words per line: AS, type, length, next hop.
 pub const WORDS_PER_LINE: usize = 4;
 
-// A line of a table or a sheet.
-#[derive(Clone, Copy)]
+/// A line of a table or a sheet: the number of its AS, the type and the length of that AS's route, and its next hop.
+#[derive(Clone, Copy, Debug, PartialEq, Eq)]
 pub struct Row {
     pub number: u32,
     pub typ: u32,
@@ -17,16 +17,16 @@ pub struct Row {
 }
 
 impl Row {
-    // Whether it can stand as the line that is due for AS u: lengths up to bound.
+    /// Whether it can stand as the line that is due for AS u: lengths up to bound.
     pub(crate) fn stands(self, u: u32, bound: u32) -> bool
         ensures { result ≡ stands bound u (entry_of self) }
     {
-        let lost = (self.typ == 4) & (0 < self.length);
-        (self.number == u) & (1 <= self.typ) & (self.typ <= 4) & !lost & (self.length <= bound)
+        let lost = self.typ == 4 && self.length > 0;
+        self.number == u && (1..=4).contains(&self.typ) && !lost && self.length <= bound
     }
 }
 
-// Line i of table words.
+/// Line i of table words.
 pub fn row_at(table: &[u32], i: usize) -> Row
     requires { 4 * i + 4 ≤ length table.now }
     ensures { entry_of result ≡ entry_at table.now i }
@@ -40,7 +40,7 @@ pub fn row_at(table: &[u32], i: usize) -> Row
     }
 }
 
-// Puts a line at place i of table words. The other words stay.
+/// Puts a line at place i of table words. The other words stay.
 pub(crate) fn put_row(table: &mut [u32], i: usize, row: Row)
     requires { 4 * i + 4 ≤ length table.old }
     ensures { table.new ≡ sets table.old (4 * i) (words_of (entry_of row ∷ [])) }

@@ -1,64 +1,60 @@
 -- `judge_lines`: the place of the destination, the lines that stand, and the offers to them are 7, 11 and 12 in order (`lines_in_order`).
-use Rattle.std.specs.Prelude.{Ok}
-use Rattle.std.proofs.Common.{◌*◌, ◌<◌, ◌≡◌, refl, sym, ◌∙◌, arith, length, get_or, take}
+use Rattle.std.specs.Prelude.{Ok, Err, Some, None}
+use Rattle.std.proofs.Common.{rules, ◌≡◌, refl, sym, ◌∙◌, arith, length-take}
 use Rattle.judge.proofs.DueLaws.{offers_told}
-use Rattle.judge.proofs.NetworkLaws.{ascending, distinct}
+use Rattle.judge.proofs.NetworkLaws.{few_named, accepted_Network, distinct}
 use Rattle.judge.proofs.OrderLaws.{lines_in_order}
-use Rattle.judge.proofs.StandLaws.{standing-Told, all_read}
+use Rattle.judge.proofs.StandLaws.{standing-Told, all_read, formed_whole}
 use Rattle.rules.proofs.VerdictLaws.{stopped}
-use Rattle.rules.specs.Entry.{fault_of_destination}
-use Rattle.rules.specs.Judge.{words_of}
+use Rattle.rules.specs.declared.Refusal.TheVariants.{NoDestination}
 use Rattle.rules.specs.Network.{links_of}
 use Rattle.sheet.proofs.StandingLaws.{destination_there, destination_none}
 use Rattle.sheet.specs.Form.{destination_of, lines_of}
-use lib.Seq.{take-length}
 use Rattle.judge.proofs.lines.judge_lines.Goals as goal
-use Rattle.judge.proofs.lines.judge_lines.Goals.{After-lines_stand-stand, In-Ok}
 
-named : (c : After-lines_stand-stand)
-    → (let A = c.args in
-    Ok tt ≡ fault_of_destination (destination_of A.sheet.now) A.ases.now)
-named c = destination_there _ _ c.args.ases.now ((let it1 : (let A = c.args in let at = c.in-Some.at in (at < length A.ases.now) × (get_or A.ases.now at 0 ≡ destination_of A.sheet.now)) = let p = rw c.in-Some.is at c.place_of.ensures in (p.0, p.1 ∙ c.destination.ensures) in it1)).0 ((let it2 : (let A = c.args in let at = c.in-Some.at in (at < length A.ases.now) × (get_or A.ases.now at 0 ≡ destination_of A.sheet.now)) = let p = rw c.in-Some.is at c.place_of.ensures in (p.0, p.1 ∙ c.destination.ensures) in it2)).1
+pub destination-requires : goal.destination-requires
+destination-requires c = omega (arith, formed_whole _ c.requires.1)
 
-told : (c : In-Ok)
-    → (let A = c.args in
-    take (4 * length A.ases.now) c.lines_stand-stand.new.told ≡ words_of (lines_of A.sheet.now))
-told c =
+pub returns-in_err-at : goal.returns-in_err-at
+returns-in_err-at c =
     let A = c.args in
-    all_read A.bound A.ases.now A.sheet.now _ ((sym c.lines_stand-stand.ensures.reply ∙ c.in-Ok.is)) c.lines_stand-stand.ensures.lines
+    let none : c.place_of-place.result ≡ None = search rules in
+    let passed_on : c.from_residual.result ≡ Err NoDestination = search rules in
+    let unnamed = destination_none (destination_of A.sheet.now) A.ases.now _ (rw c.destination.ensures at c.place_of-place.ensures) none in
+    passed_on ∙ lines_in_order 511 _ A.ases.now A.sheet.now (Err NoDestination) _ _ c.requires.0 (sym unnamed) refl refl
 
--- the destination's place among the ASes
-placed : (c : After-lines_stand-stand)
-    → (let A = c.args in
-    let at = c.in-Some.at in
-    (at < length A.ases.now) × (get_or A.ases.now at 0 ≡ destination_of A.sheet.now))
-placed c =
-    let p = rw c.in-Some.is at c.place_of.ensures in
-    (p.0, p.1 ∙ c.destination.ensures)
-
-pub place_of-requires : goal.place_of-requires
-place_of-requires c = (omega arith, rw (take-length c.args.ases.now) (ascending c.requires.0))
-
-pub returns-in_default : goal.returns-in_default
-returns-in_default c =
+pub returns-in_err-put_lines : goal.returns-in_err-put_lines
+returns-in_err-put_lines c =
     let A = c.args in
-    let none = rw (c.in_default.is, c.destination.ensures) at c.place_of.ensures in
-    lines_in_order A.bound _ A.ases.now A.sheet.now _ _ _ c.requires.0.ases (destination_none _ A.ases.now none) refl refl
+    let some : c.place_of-place.result ≡ Some c.in_ok-at.at = search rules in
+    let passed_on : c.from_residual-in_err-put_lines.result ≡ c.put_lines.result = search rules in
+    let named = destination_there (destination_of A.sheet.now) A.ases.now _ (rw c.destination.ensures at c.place_of-place.ensures) _ some in
+    passed_on
+    ∙ stopped _ _ _ (c.in_err-put_lines.was)
+    ∙ lines_in_order 511 _ A.ases.now A.sheet.now (Ok tt) _ _ c.requires.0 (sym named.0) c.put_lines.ensures.reply refl
 
-pub returns-in_default-stand : goal.returns-in_default-stand
-returns-in_default-stand c =
-    let A = c.args in
-    stopped _ _ _ c.in_default-stand.is
-    ∙ lines_in_order A.bound _ A.ases.now A.sheet.now _ _ _ c.requires.0.ases (named (goal.at.returns-in_default-stand c).After-lines_stand-stand) c.lines_stand-stand.ensures.reply refl
+pub slice_bounds-told-end : goal.slice_bounds-told-end
+slice_bounds-told-end c = omega (arith, few_named _ _ _ c.requires.0 c.args.network.accepted)
 
-pub judge_offers-requires : goal.judge_offers-requires
-judge_offers-requires c =
+pub slice_bounds-printed-end : goal.slice_bounds-printed-end
+slice_bounds-printed-end c = simp length-take (omega (arith, few_named _ _ _ c.requires.0 c.args.network.accepted))
+
+pub invariant_of-printed : goal.invariant_of-printed
+invariant_of-printed c =
     let A = c.args in
-    let n = c.requires.0 in
-    (n, rw (told (goal.at.judge_offers-requires c).In-Ok) (standing-Told A.bound c.requires.2 A.ases.now (distinct n) (lines_of A.sheet.now) ((sym c.lines_stand-stand.ensures.reply ∙ c.in-Ok.is))), (placed (goal.at.judge_offers-requires c).After-lines_stand-stand).0)
+    let stand = sym c.put_lines.ensures.reply ∙ c.in_ok-put_lines.was in
+    let printed = all_read 511 A.ases.now A.sheet.now _ stand c.put_lines.ensures.lines in
+    record {
+      listed = c.requires.0;
+      told = rw printed (standing-Told 511 (omega arith) A.ases.now (distinct (accepted_Network c.requires.0 A.network.accepted)) (lines_of A.sheet.now) stand);
+    }
 
 pub returns : goal.returns
 returns c =
     let A = c.args in
-    let best = offers_told (links_of A.words.now) (lines_of A.sheet.now) c.judge_offers.ensures (placed (goal.at.returns c).After-lines_stand-stand).1 (told (goal.at.returns c).In-Ok) in
-    lines_in_order A.bound _ A.ases.now A.sheet.now _ _ _ c.requires.0.ases (named (goal.at.returns c).After-lines_stand-stand) (sym ((sym c.lines_stand-stand.ensures.reply ∙ c.in-Ok.is))) best
+    let some : c.place_of-place.result ≡ Some c.in_ok-at.at = search rules in
+    let named = destination_there (destination_of A.sheet.now) A.ases.now _ (rw c.destination.ensures at c.place_of-place.ensures) _ some in
+    let stand = sym c.put_lines.ensures.reply ∙ c.in_ok-put_lines.was in
+    let printed = all_read 511 A.ases.now A.sheet.now _ stand c.put_lines.ensures.lines in
+    let best = offers_told (links_of A.network.words.now) (lines_of A.sheet.now) c.judge.ensures named.2 printed in
+    lines_in_order 511 _ A.ases.now A.sheet.now (Ok tt) (Ok tt) _ c.requires.0 (sym named.0) (sym stand) best
