@@ -1,5 +1,5 @@
 pub mod Entries
-pub mod Rooms
+pub mod Flags
 pub mod Tellings
 pub mod Peelings
 pub mod Joinings
