@@ -1,9 +1,10 @@
 -- The entry: what an accepted list is, and the replies in the order of the definition.
 use Prim.Native.Nat.{ℕ, ◌+◌, ◌*◌, ◌/◌, ◌≤◌, ◌<◌}
-use mathlib.Core.Path.{◌≡◌, refl, ap}
-use mathlib.Core.List.{List}
+use mathlib.Core.Path.{◌≡◌, refl, ◌∙◌, ap}
+use mathlib.Core.List.{List, [], ◌++◌}
 use native.Mathlib.Omega.{arith}
-use lib.ListN.{length, replicate}
+use lib.ListN.{length, replicate, drop}
+use Rattle.std.proofs.lemmas.List.{append-nil, drop_all}
 use borrow.Author.Tests.{le-leb, lt-leb}
 use Rattle.std.specs.Prelude.{Err, Ok, Result}
 use Rattle.rules.specs.declared.Refusal.{Refusal}
@@ -14,6 +15,9 @@ use Rattle.rules.specs.Checks.{base_limits, check_words, needed_room}
 use Rattle.rules.specs.Entry.{and_then, verdict_of, fault_of_room}
 use Rattle.rules.proofs.AcceptedLinks.{check_words-Accepted}
 use Rattle.network.proofs.PrefixLaws.{count}
+use Rattle.offers.specs.Ways.{places_of}
+use Rattle.offers.specs.Placing.{with_places}
+use Rattle.offers.proofs.PlaceLaws.{places_length}
 use Rattle.findings.specs.Entries.{fault_of_findings, findings_reply, final_room}
 use Rattle.findings.specs.Flags.{ases_in}
 use Rattle.findings.specs.Peelings.{RingsLeft}
@@ -23,6 +27,15 @@ use Rattle.findings.proofs.RingLaws.{reaches_as}
 -- everybody is left, who is on a ring too
 pub rings_start : (ws t : List ℕ) → Everybody ws t → RingsLeft ws t
 rings_start ws t h x k e = h x (reaches_as (links_of ws) k x x e)
+
+-- the places of the ends, in just as many words
+pub placed_whole : (ws t : List ℕ) → length t ≡ 2 * (length ws / 3) → with_places (links_of ws) t ≡ places_of (ases_in ws) (links_of ws)
+placed_whole ws t e =
+    let none : drop (2 * length (links_of ws)) t ≡ [] = drop_all (2 * length (links_of ws)) t (omega (arith, count ws)) in
+    ap (λ (r : List ℕ). places_of (ases_in ws) (links_of ws) ++ r) none ∙ append-nil (places_of (ases_in ws) (links_of ws))
+
+pub placed_long : (ws t : List ℕ) → t ≡ places_of (ases_in ws) (links_of ws) → length t ≡ 2 * (length ws / 3)
+placed_long ws t e = omega (arith, ap length e, count ws, places_length (ases_in ws) (links_of ws))
 
 -- What an accepted list is ------------------------------------------------------------------------------------------------
 
@@ -80,6 +93,8 @@ module _ (ws t : List ℕ) (r : Refusal) (e : check_words base_limits ws ≡ Err
   unfolding final_room fault_of_findings
   refused_room = rw e
 
-pub ruleset accepted = (ases_counted, ases_few, links_few, links_counted)
+pub ruleset accepted = (placed_whole, placed_long, ases_counted, ases_few, links_few, links_counted)
 
 pub ruleset replies = (short_reply, short_room, found_reply, found_room, refused_reply, refused_room)
+
+pub ruleset starts = (rings_start)

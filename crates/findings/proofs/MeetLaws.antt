@@ -68,10 +68,10 @@ module _ (ws s : List ℕ) (h : Served ws s) (p : ℕ) (l : p < length (ases_in 
   served_one = ap (flag_at s) (sym one_place) ∙ h one (at_in 0 us p l)
 
   -- no top meets every top
-  pub meets_served : flag_at s p ≡ true → meets_at ws p ≡ true
+  pub meets_served : get_or s p 0 ≡ 1 → true ≡ meets_at ws p
   meets_served e =
-      all_of-true (pair_joined (links_of ws) one) us
-      (λ v m. held (is_top (links_of ws) one) (is_top (links_of ws) v) (eqb one v) (are_peers (links_of ws) one v) (sym served_one ∙ e))
+      sym (all_of-true (pair_joined (links_of ws) one) us
+      (λ v m. held (is_top (links_of ws) one) (is_top (links_of ws) v) (eqb one v) (are_peers (links_of ws) one v) (sym served_one ∙ eq-eqb _ 1 e)))
     where
       held : (a b c d : Bool) → not a ≡ true → (not (a && b) || c || d) ≡ true
       held true b c d f = absurd (false≢true f)
@@ -108,8 +108,9 @@ module _ (ws s : List ℕ) (h : Served ws s) (p : ℕ) (l : p < length (ases_in 
           all_of_not (pair_joined (links_of ws) one) us k j (sym (met_at k j) ∙ e)
 
     -- and where only peers are met and every top is, it meets every top
-    pub meets_hinted : (b : List ℕ) → Hinted ws c a b → length b ≡ length (ases_in ws) → AllMet s b true → meets_at ws p ≡ true
-    meets_hinted b o z f =
+    pub meets_hinted : (b : List ℕ) (r : Bool) → Hinted ws c a b → length b ≡ length (ases_in ws) → AllMet s b r → r ≡ true → meets_at ws p ≡ true
+    meets_hinted b false o z f e = absurd (false≢true e)
+    meets_hinted b true o z f e =
         all_of-true (pair_joined (links_of ws) one) us
         (λ v m. hint (is_top (links_of ws) one) _ _ _ _ _ (h v m) (λ e. sym (told_peers v m) ∙ o.flags v m e)
         (f (place ws v) (omega (arith, place_below ws v m))))
@@ -124,3 +125,11 @@ module _ (ws : List ℕ) where
   pub joined_not : (p : ℕ) → p < length (ases_in ws) → false ≡ meets_at ws p → false ≡ joined (links_of ws)
   unfolding joined
   joined_not p l e = all_of_not (meets (links_of ws)) (ases_in ws) p l (sym e)
+
+pub ruleset surely = (meets_top)
+
+pub ruleset seemingly = (meets_hinted)
+
+pub ruleset unserved = (meets_served)
+
+pub ruleset joinings = (joined_yes, joined_not)

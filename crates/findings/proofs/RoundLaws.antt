@@ -94,3 +94,9 @@ module _ (ws t u : List ℕ) (n : length u ≡ length (ases_in ws)) (all : Rings
       let (x, k, c) = ringed-Ring (links_of ws) e in
       let below = place_below ws x (reaches_as (links_of ws) k x x c) in
       false≢true (sym (h (place ws x) (omega arith)) ∙ b.rings all x k c)
+
+pub ruleset rounds = (peel_Round)
+
+pub ruleset strips = (rings_kept, round_Bare)
+
+pub ruleset rings_found = (one_left, none_left)

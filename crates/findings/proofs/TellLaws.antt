@@ -4,7 +4,7 @@
 use Prim.Native.Nat.{ℕ, ◌+◌, ◌*◌, ◌/◌, ◌≤◌, ◌<◌}
 use mathlib.Core.Path.{◌≡◌, refl, sym, ◌∙◌, ap, subst}
 use mathlib.Core.Logic.{⊎_elim, ◌≢◌}
-use mathlib.Core.Bool.{Bool, true, false, ◌&&◌, ◌||◌, or-false}
+use mathlib.Core.Bool.{Bool, true, false, ◌&&◌, ◌||◌, and-false, or-false}
 use mathlib.Core.List.{List, [], ◌∷◌}
 use native.Mathlib.Omega.{arith}
 use lib.Dec.{eqb}
@@ -78,21 +78,24 @@ module _ (ws : List ℕ) (r : ℕ) (w : Way) (i : ℕ) (h : 3 * i + 3 ≤ length
   abbrev link : Link
   link = link_in_words ws i
 
-  -- whether link i has something to tell
-  abbrev news : Bool
-  news = eqb link.relation r && flag ws f (teller w link)
+  -- nobody is told
+  nobody : (eqb link.relation r && flag ws f (teller w link)) ≡ false → Told ws r w f (link ∷ []) t t
+  nobody e = record { flags = λ x m. stays _ _ _ (tells_no r w (flag ws f) x link e) refl }
 
-  pub told_none : news ≡ false → Told ws r w f (link ∷ []) t t
-  told_none e = record { flags = λ x m. stays _ _ _ (tells_no r w (flag ws f) x link e) refl }
+  pub told_off : link.relation ≢ r → Told ws r w f (link ∷ []) t t
+  told_off ne = nobody (cc (ne_eqb link.relation r ne))
 
-  pub told_one : news ≡ true → place ws (hearer w link) < length t → Told ws r w f (link ∷ []) t (set t (place ws (hearer w link)) 1)
-  told_one d fits =
+  pub told_none : get_or f (place ws (teller w link)) 0 ≢ 1 → Told ws r w f (link ∷ []) t t
+  told_none ne = nobody (ap (λ (b : Bool). eqb link.relation r && b) (ne_eqb (get_or f (place ws (teller w link)) 0) 1 ne) ∙ and-false (eqb link.relation r))
+
+  -- the hearer is told
+  pub told_one : link.relation ≡ r → get_or f (place ws (teller w link)) 0 ≡ 1 → place ws (hearer w link) < length t
+      → Told ws r w f (link ∷ []) t (set t (place ws (hearer w link)) 1)
+  told_one on tells_it fits =
       let k = place ws (hearer w link) in
-      let on : link.relation ≡ r = eqb-true _ _ (and_left (eqb link.relation r) _ d) in
-      let set_there : flag ws f (teller w link) ≡ true = and_right (eqb link.relation r) _ d in
       record {
         flags = λ x m. ⊎_elim
-            (λ q. now_set _ (flag ws t x) _ (tells_yes r w (flag ws f) x link on q set_there)
+            (λ q. now_set _ (flag ws t x) _ (tells_yes r w (flag ws f) x link on q (eq-eqb _ 1 tells_it))
             (ap (λ (y : ℕ). flag ws (set t k 1) y) (sym q) ∙ set_flag t k 1 fits))
             (λ ne. stays _ _ _ (tells_far r w (flag ws f) x link ne)
             (set_other t k 1 (place ws x) (λ e. ne (place_one (ases_in ws) _ x (hearer-In ws link w (link_In ws i h)) m (sym e)))))
@@ -126,7 +129,7 @@ module _ (ws : List ℕ) (r : ℕ) (w : Way) (f t : List ℕ) where
         let g' = subst (λ (rest : List Link). Going ws r w f rest (links_of ws) t u) (links_end ws i l) g in
         record { flags = λ x m. sym (or-false _) ∙ g'.flags x m }
 
-pub ruleset told_link = (told_none, told_one)
+pub ruleset told_link = (told_off, told_none, told_one)
 
 pub ruleset going = (going_start, going_next, going_done)
 

@@ -77,10 +77,13 @@ peered ws c t a u o q = record { flags = λ x m. or_assoc (flag ws u x) (flag ws
 -- The chosen one ----------------------------------------------------------------------------------------------------------
 
 pub chosen_alone : (n p : ℕ) → p < n → Chosen p (set (replicate n 0) p 1)
-chosen_alone n p l k m =
-    let fits : p < length (replicate n 0) = omega (arith, length-replicate n 0) in
-    let below : k < n = omega (arith, length-replicate n 0, length-set (replicate n 0) p 1) in
-    ⊎_elim
-    (λ (e : k ≡ p). ap (flag_at (set (replicate n 0) p 1)) e ∙ set_flag (replicate n 0) p 1 fits ∙ sym (eq-eqb k p e))
-    (λ (d : k ≢ p). set_other (replicate n 0) p 1 k d ∙ filled_flag n 0 k below ∙ sym (ne_eqb k p d))
-    (same? k p)
+chosen_alone n p l k m = at (simp (length-set, length-replicate) at m)
+  where
+    at : k < n → flag_at (set (replicate n 0) p 1) k ≡ eqb k p
+    at below =
+        ⊎_elim (λ (e : k ≡ p). ap (flag_at (set (replicate n 0) p 1)) e ∙ set_flag (replicate n 0) p 1 (simp length-replicate l) ∙ sym (eq-eqb k p e))
+        (λ (d : k ≢ p). set_other (replicate n 0) p 1 k d ∙ filled_flag n 0 k below ∙ sym (ne_eqb k p d)) (same? k p)
+
+pub ruleset alone = (chosen_alone)
+
+pub ruleset peers_met = (peered)

@@ -29,6 +29,7 @@ pub struct Found {
 
 // The findings with four lists of flags: who is not peeled off, who has a provider, who is the top that is compared with the others, and
 // whom a pass over the links met.
+#[tactic(auto, using(crate::proofs::EntryLaws::starts))]
 fn look(
     survey: Survey<'_>,
     left: &mut [u32],
@@ -72,7 +73,7 @@ fn look_in(words: &[u32], n: usize, room: &mut [u32]) -> Found
 }
 
 // The findings on accepted links with n ASes, or refusal 8.
-#[tactic(auto, using(crate::proofs::EntryLaws::replies))]
+#[tactic(auto, using(crate::proofs::EntryLaws::accepted, crate::proofs::EntryLaws::replies))]
 pub fn find_accepted(words: &[u32], n: usize, room: &mut [u32]) -> Result<Found, Refusal>
     requires { check_words base_limits words.now ≡ Ok n }
     ensures value { result ≡ findings_reply base_limits words.now (length room.old) }
@@ -87,7 +88,7 @@ pub fn find_accepted(words: &[u32], n: usize, room: &mut [u32]) -> Result<Found,
 }
 
 // Whether there is a customer ring, and whether the network is joined. The room is zero afterwards; a refusal leaves it as it was.
-#[tactic(auto, using(crate::proofs::EntryLaws::replies))]
+#[tactic(auto, using(crate::proofs::EntryLaws::accepted, crate::proofs::EntryLaws::replies))]
 pub fn find(words: &[u32], room: &mut [u32]) -> Result<Found, Refusal>
     ensures value { result ≡ findings_reply base_limits words.now (length room.old) }
     ensures room_after { room.new ≡ final_room base_limits words.now room.old }

@@ -18,7 +18,9 @@ struct Stack {
 
 impl Stack {
     // On top, if there is room.
-    fn push(&mut self, place: usize) {
+    fn push(&mut self, place: usize)
+        requires { place < 512 }
+    {
         if self.height < 512 {
             self.places[self.height] = place as u32;
             self.height += 1;

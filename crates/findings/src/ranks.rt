@@ -1,21 +1,22 @@
 // A look at ranks of ASes, by place: where they fall along every link from provider to customer, and stay above 0, nobody with a rank
 // above 0 is on a ring.
-ghost use Rattle.std.specs.Prelude.{◌+◌, ◌*◌, ◌≤◌, ◌<◌, ◌≡◌, true, length};
-ghost use Rattle.findings.specs.Ranks.{Lower, FallsAt, Falls, Spared};
+ghost use Rattle.std.specs.Prelude.{◌+◌, ◌*◌, ◌/◌, ◌≤◌, ◌<◌, ◌≡◌, true, length};
+ghost use Rattle.findings.specs.Ranks.{may_fall, falls_at, Falls, Spared};
 
 use crate::survey::{PROVIDES, Survey, Way};
 
 // Whether the lower rank may stand below the upper one.
 fn may_fall(upper: u32, lower: u32) -> bool
-    ensures { result ≡ true → Lower upper lower }
+    ensures { result ≡ may_fall upper lower }
 {
     upper == 0 || (0 < lower && lower < upper)
 }
 
 // Whether the ranks fall along link i.
+#[tactic(auto, unfolding(crate::specs::Tellings::teller, crate::specs::Tellings::hearer))]
 fn falls_at(survey: &Survey<'_>, ranks: &[u32; 512], i: usize) -> bool
     requires { 3 * i + 3 ≤ length survey.now.words.now }
-    ensures { result ≡ true → FallsAt survey.now.words.now ranks.now i }
+    ensures { result ≡ falls_at survey.now.words.now ranks.now i }
 {
     if network::link_at(survey.words, i).relation != PROVIDES {
         return true;
@@ -26,12 +27,18 @@ fn falls_at(survey: &Survey<'_>, ranks: &[u32; 512], i: usize) -> bool
 
 // Whether they fall along every link.
 pub fn fall(survey: &Survey<'_>, ranks: &[u32; 512]) -> bool
-    ensures { result ≡ true → Falls survey.now.words.now ranks.now }
+    ensures { result ≡ true → Falls survey.now.words.now ranks.now (length survey.now.words.now / 3) }
 {
-    (0..survey.links()).all(|i| falls_at(survey, ranks, i))
+    for i in 0..survey.links() {
+        if !falls_at(survey, ranks, i) {
+            return false;
+        }
+    }
+    true
 }
 
 // All who have a rank are taken away.
+#[tactic(auto, using(crate::proofs::RankLaws::spares))]
 pub fn spare(left: &mut [u32], ranks: &[u32; 512])
     requires { length left.old ≤ 512 }
     ensures { Spared ranks.now left.old left.new }

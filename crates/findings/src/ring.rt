@@ -5,9 +5,8 @@ ghost use Rattle.rules.specs.Network.{links_of};
 ghost use Rattle.rules.specs.Findings.{ringed};
 ghost use Rattle.findings.specs.Peelings.{Peeled, Round, RingsLeft, Bare};
 
-use crate::order;
-use crate::ranks;
 use crate::survey::{PROVIDES, Survey, Way};
+use crate::{order, ranks};
 
 // Takes away who is left and not met. Whether there was one.
 #[tactic(auto, using(crate::proofs::PeelLaws::peelings))]
@@ -59,7 +58,7 @@ fn peel_ranked(survey: &Survey<'_>, left: &mut [u32])
 }
 
 // Whether there is a customer ring, where every AS is left.
-#[tactic(auto, using(crate::proofs::RoundLaws::ring_found))]
+#[tactic(auto, using(crate::proofs::RoundLaws::rings_found))]
 pub fn has_ring(survey: &Survey<'_>, left: &mut [u32], met: &mut [u32]) -> bool
     requires sizes { (length left.old ≡ survey.now.ases) × (length met.old ≡ survey.now.ases) }
     requires rings { RingsLeft survey.now.words.now left.old }

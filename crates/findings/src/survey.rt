@@ -1,5 +1,5 @@
 // A network with the places of its links' ends, and passes over its links.
-ghost use Rattle.std.specs.Prelude.{◌+◌, ◌*◌, ◌≤◌, ◌<◌, ◌≡◌, length, [], ◌∷◌};
+ghost use Rattle.std.specs.Prelude.{◌*◌, ◌/◌, ◌≤◌, ◌≡◌, length};
 ghost use Rattle.rules.specs.Network.{links_of, ases_of};
 ghost use Rattle.offers.specs.Ways.{places_of};
 
@@ -23,6 +23,7 @@ pub struct Survey<'a> {
     pub places: &'a [u32],
     pub ases: usize,
     ghost placed: { places.now ≡ places_of (ases_of (links_of words.now)) (links_of words.now) },
+    ghost two_each: { length places.now ≡ 2 * (length words.now / 3) },
     ghost counted: { ases ≡ length (ases_of (links_of words.now)) },
     ghost few_ases: { ases ≤ 512 },
     ghost few_links: { length words.now ≤ 4608 },
@@ -65,8 +66,7 @@ impl<'a> Survey<'a> {
         ensures { Told self.now.words.now relation way from.now (link_in_words self.now.words.now i ∷ []) to.old to.new }
     {
         let (teller, hearer) = self.ends(way, i);
-        let told = network::link_at(self.words, i).relation == relation && from[teller] == 1;
-        if told {
+        if network::link_at(self.words, i).relation == relation && from[teller] == 1 {
             to[hearer] = 1;
         }
     }

@@ -2,12 +2,14 @@
 // looked for: first with the marks from its own links, and where they miss a top, by passes over all links.
 ghost use Rattle.std.specs.Prelude.{◌<◌, ◌≡◌, length};
 ghost use Rattle.rules.specs.Network.{links_of};
+ghost use Rattle.rules.specs.Findings.{joined};
 ghost use Rattle.findings.specs.Joinings.{Everybody, Served, Chosen};
 
 use crate::marks;
 use crate::survey::{PEERS, PROVIDES, Survey, Way};
 
 // Every AS is left, and who has a provider is told so.
+#[tactic(auto, using(crate::proofs::TopLaws::starts))]
 pub fn start(survey: &Survey<'_>, left: &mut [u32], served: &mut [u32])
     requires { (length left.old ≡ survey.now.ases) × (length served.old ≡ survey.now.ases) }
     ensures left { Everybody survey.now.words.now left.new }
@@ -19,6 +21,7 @@ pub fn start(survey: &Survey<'_>, left: &mut [u32], served: &mut [u32])
 }
 
 // The flag at place p alone is set.
+#[tactic(auto, using(crate::proofs::TopLaws::alone))]
 fn set_alone(flags: &mut [u32], p: usize)
     requires { p < length flags.old }
     ensures { Chosen p flags.new }
@@ -45,6 +48,7 @@ impl<'a> Tops<'a> {
     ghost use Rattle.findings.specs.Joinings.{Peered, AllMet, meets_at};
 
     // The peers of the chosen AS are met.
+    #[tactic(auto, using(crate::proofs::TopLaws::peers_met))]
     fn meet_peers(&self, chosen: &[u32], met: &mut [u32])
         requires { (length chosen.now ≡ self.now.survey.ases) × (length met.old ≡ self.now.survey.ases) }
         ensures { Peered self.now.survey.words.now chosen.now met.old met.new }
@@ -62,6 +66,7 @@ impl<'a> Tops<'a> {
     }
 
     // Whether the top at place p is seen to be a peer of every other top, by its own links.
+    #[tactic(auto, using(crate::proofs::MeetLaws::seemingly))]
     fn seems_met(&self, p: usize, chosen: &mut [u32], met: &mut [u32]) -> bool
         requires within { p < self.now.survey.ases }
         requires sizes { (length chosen.old ≡ self.now.survey.ases) × (length met.old ≡ self.now.survey.ases) }
@@ -74,6 +79,7 @@ impl<'a> Tops<'a> {
     }
 
     // Whether the top at place p is a peer of every other top, by all links.
+    #[tactic(auto, using(crate::proofs::MeetLaws::surely))]
     fn meets_surely(&self, p: usize, chosen: &mut [u32], met: &mut [u32]) -> bool
         requires top { (p < self.now.survey.ases) × (flag_at self.now.served.now p ≡ false) }
         requires sizes { (length chosen.old ≡ self.now.survey.ases) × (length met.old ≡ self.now.survey.ases) }
@@ -86,6 +92,7 @@ impl<'a> Tops<'a> {
     }
 
     // Whether the AS at place p is a peer of every other top, or no top.
+    #[tactic(auto, using(crate::proofs::MeetLaws::unserved))]
     fn meets(&self, p: usize, chosen: &mut [u32], met: &mut [u32]) -> bool
         requires within { p < self.now.survey.ases }
         requires sizes { (length chosen.old ≡ self.now.survey.ases) × (length met.old ≡ self.now.survey.ases) }
@@ -101,6 +108,7 @@ impl<'a> Tops<'a> {
     }
 
     // Whether every AS is one.
+    #[tactic(auto, using(crate::proofs::MeetLaws::joinings))]
     fn all_meet(&self, chosen: &mut [u32], met: &mut [u32]) -> bool
         requires { (length chosen.old ≡ self.now.survey.ases) × (length met.old ≡ self.now.survey.ases) }
         ensures { result ≡ joined (links_of self.now.survey.words.now) }
