@@ -9,7 +9,7 @@ ghost use Rattle.offers.specs.Placing.{with_places};
 ghost use Rattle.findings.specs.Entries.{findings_reply, final_room};
 ghost use Rattle.findings.specs.Flags.{ases_in};
 
-use network::WORDS_PER_LINK;
+use network::Network;
 use rules::Refusal;
 use survey::Survey;
 
@@ -37,10 +37,10 @@ fn look(
     chosen: &mut [u32],
     met: &mut [u32],
 ) -> Found
-    requires peeled { (length left.old ≡ survey.ases) × (length served.old ≡ survey.ases) }
-    requires compared { (length chosen.old ≡ survey.ases) × (length met.old ≡ survey.ases) }
-    ensures ring { result.ring ≡ ringed (links_of survey.entry.words.now) }
-    ensures joined { result.joined ≡ joined (links_of survey.entry.words.now) }
+    requires peeled { (length left.old ≡ survey.network.ases) × (length served.old ≡ survey.network.ases) }
+    requires compared { (length chosen.old ≡ survey.network.ases) × (length met.old ≡ survey.network.ases) }
+    ensures ring { result.ring ≡ ringed (links_of survey.entry.network.words.now) }
+    ensures joined { result.joined ≡ joined (links_of survey.entry.network.words.now) }
 {
     tops::start(&survey, left, served);
     let joined = tops::is_joined(survey, served, chosen, met);
@@ -48,51 +48,54 @@ fn look(
     Found { ring, joined }
 }
 
-// The findings on accepted links with n ASes in a room that suffices: two words per link for the places of its ends, then a word per AS
-// for each list of flags.
+// The findings on accepted links in a room that suffices: two words per link for the places of its ends, then a word per AS for each list
+// of flags.
 #[tactic(auto, using(std::proofs::lemmas::Grind::common_steps, crate::proofs::EntryLaws::accepted))]
-fn look_in(words: &[u32], n: usize, room: &mut [u32]) -> Found
-    requires accepted { check_words base_limits words.now ≡ Ok n }
-    requires room { 8 * (length words.now / 3) + 8 * n ≤ length room.old }
-    ensures ring { result.ring ≡ ringed (links_of words.now) }
-    ensures joined { result.joined ≡ joined (links_of words.now) }
+fn look_in(network: Network<'_>, room: &mut [u32]) -> Found
+    requires { 8 * (length network.words.now / 3) + 8 * network.ases ≤ length room.old }
+    ensures ring { result.ring ≡ ringed (links_of network.entry.words.now) }
+    ensures joined { result.joined ≡ joined (links_of network.entry.words.now) }
 {
+    let n = network.ases;
     let mut list = [0u32; 512];
-    network::list_ases(words, &mut list);
-    let (places, flags) = room.split_at_mut(2 * (words.len() / WORDS_PER_LINK));
-    offers::place_ends(words, &list, n, places);
-    let survey = Survey {
-        words,
-        places,
-        ases: n,
-    };
+    network::list_ases(network.words, &mut list);
+    let (places, flags) = room.split_at_mut(2 * network.links());
+    offers::place_ends(network.words, &list, n, places);
+    let survey = Survey { network, places };
     let (left, flags) = flags.split_at_mut(n);
     let (served, flags) = flags.split_at_mut(n);
     let (chosen, flags) = flags.split_at_mut(n);
     look(survey, left, served, chosen, &mut flags[..n])
 }
 
-// The findings on accepted links with n ASes, or refusal 8.
+// The findings on accepted links, or refusal 8.
 #[tactic(auto, using(crate::proofs::EntryLaws::accepted, crate::proofs::EntryLaws::replies))]
+fn find_in(network: Network<'_>, room: &mut [u32]) -> Result<Found, Refusal>
+    ensures value { result ≡ findings_reply base_limits network.entry.words.now (length room.old) }
+    ensures room_after { room.new ≡ final_room base_limits network.entry.words.now room.old }
+{
+    if room.len() < network::room_need(network.links(), network.ases) {
+        return Err(Refusal::RoomShort);
+    }
+    let found = look_in(network, room);
+    room.fill(0);
+    Ok(found)
+}
+
+// The findings on accepted links with n ASes, or refusal 8.
 pub fn find_accepted(words: &[u32], n: usize, room: &mut [u32]) -> Result<Found, Refusal>
     requires { check_words base_limits words.now ≡ Ok n }
     ensures value { result ≡ findings_reply base_limits words.now (length room.old) }
     ensures room_after { room.new ≡ final_room base_limits words.now room.old }
 {
-    if room.len() < network::room_need(words.len() / WORDS_PER_LINK, n) {
-        return Err(Refusal::RoomShort);
-    }
-    let Found { ring, joined } = look_in(words, n, room);
-    room.fill(0);
-    Ok(Found { ring, joined })
+    find_in(Network { words, ases: n }, room)
 }
 
 // Whether there is a customer ring, and whether the network is joined. The room is zero afterwards; a refusal leaves it as it was.
-#[tactic(auto, using(crate::proofs::EntryLaws::accepted, crate::proofs::EntryLaws::replies))]
+#[tactic(auto, using(crate::proofs::EntryLaws::replies))]
 pub fn find(words: &[u32], room: &mut [u32]) -> Result<Found, Refusal>
     ensures value { result ≡ findings_reply base_limits words.now (length room.old) }
     ensures room_after { room.new ≡ final_room base_limits words.now room.old }
 {
-    let n = network::check_links(words)?;
-    find_accepted(words, n, room)
+    find_in(Network::check(words)?, room)
 }

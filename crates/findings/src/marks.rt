@@ -14,8 +14,8 @@ pub const INDEX: usize = 3584;
 
 // Notes both directions of each peer link, under the AS that tells.
 pub fn note_peers(survey: &Survey<'_>, index: &mut [u32]) {
-    for i in 0..survey.links() {
-        if network::link_at(survey.words, i).relation == PEERS {
+    for i in 0..survey.network.links() {
+        if network::link_at(survey.network.words, i).relation == PEERS {
             let (a, b) = survey.ends(Way::Down, i);
             scratch::note(index, HEADS + b, 2 * i);
             scratch::note(index, HEADS + a, 2 * i + 1);
@@ -26,9 +26,9 @@ pub fn note_peers(survey: &Survey<'_>, index: &mut [u32]) {
 // The chosen AS tells over link i, either way.
 #[tactic(auto, using(crate::proofs::HintLaws::hints))]
 fn meet_over(survey: &Survey<'_>, i: usize, chosen: &[u32], met: &mut [u32])
-    requires within { 3 * i + 3 ≤ length survey.now.words.now }
-    requires sizes { (length chosen.now ≡ survey.now.ases) × (length met.old ≡ survey.now.ases) }
-    ensures { Hinted survey.now.words.now chosen.now met.old met.new }
+    requires within { 3 * i + 3 ≤ length survey.now.network.words.now }
+    requires sizes { (length chosen.now ≡ survey.now.network.ases) × (length met.old ≡ survey.now.network.ases) }
+    ensures { Hinted survey.now.network.words.now chosen.now met.old met.new }
 {
     survey.tell_over(PEERS, Way::Down, i, chosen, met);
     survey.tell_over(PEERS, Way::Up, i, chosen, met);
@@ -43,14 +43,14 @@ pub fn meet_noted_peers(
     chosen: &[u32],
     met: &mut [u32],
 )
-    requires within { p < survey.now.ases }
-    requires sizes { (length chosen.now ≡ survey.now.ases) × (length met.old ≡ survey.now.ases) }
-    ensures { Hinted survey.now.words.now chosen.now met.old met.new }
+    requires within { p < survey.now.network.ases }
+    requires sizes { (length chosen.now ≡ survey.now.network.ases) × (length met.old ≡ survey.now.network.ases) }
+    ensures { Hinted survey.now.network.words.now chosen.now met.old met.new }
 {
     let mut noted = scratch::at(index, HEADS + p);
     while 0 < noted {
         let i = ((noted - 1) / 2) as usize;
-        if i < survey.links() {
+        if i < survey.network.links() {
             meet_over(survey, i, chosen, met);
         }
         noted = scratch::noted_before(index, noted);

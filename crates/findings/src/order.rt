@@ -46,8 +46,8 @@ struct Guess {
 impl Guess {
     // Every provider link is noted, under its customer, and counted for its provider.
     fn note_links(&mut self, survey: &Survey<'_>) {
-        for i in 0..survey.links() {
-            if network::link_at(survey.words, i).relation == PROVIDES {
+        for i in 0..survey.network.links() {
+            if network::link_at(survey.network.words, i).relation == PROVIDES {
                 let (provider, customer) = survey.ends(Way::Down, i);
                 scratch::note(&mut self.index, CUSTOMERS + customer, i);
                 self.customers[provider] = self.customers[provider].saturating_add(1);
@@ -81,7 +81,7 @@ impl Guess {
         let mut noted = scratch::at(&self.index, scratch::head_of(CUSTOMERS, place));
         while 0 < noted {
             let i = (noted - 1) as usize;
-            if i < survey.links() {
+            if i < survey.network.links() {
                 let (provider, _) = survey.ends(Way::Down, i);
                 self.lose_customer(provider);
             }
@@ -101,7 +101,7 @@ pub fn ranks(survey: &Survey<'_>) -> [u32; 512] {
         },
     };
     guess.note_links(survey);
-    guess.push_bare(survey.ases);
+    guess.push_bare(survey.network.ases);
     let mut ranks = [0u32; 512];
     for rank in 1..513u32 {
         let Some(place) = guess.bare.pop() else {

@@ -15,10 +15,10 @@ fn may_fall(upper: u32, lower: u32) -> bool
 // Whether the ranks fall along link i.
 #[tactic(auto, unfolding(crate::specs::Tellings::teller, crate::specs::Tellings::hearer))]
 fn falls_at(survey: &Survey<'_>, ranks: &[u32; 512], i: usize) -> bool
-    requires { 3 * i + 3 ≤ length survey.now.words.now }
-    ensures { result ≡ falls_at survey.now.words.now ranks.now i }
+    requires { 3 * i + 3 ≤ length survey.now.network.words.now }
+    ensures { result ≡ falls_at survey.now.network.words.now ranks.now i }
 {
-    if network::link_at(survey.words, i).relation != PROVIDES {
+    if network::link_at(survey.network.words, i).relation != PROVIDES {
         return true;
     }
     let (provider, customer) = survey.ends(Way::Down, i);
@@ -26,10 +26,11 @@ fn falls_at(survey: &Survey<'_>, ranks: &[u32; 512], i: usize) -> bool
 }
 
 // Whether they fall along every link.
+#[tactic(auto, using(crate::proofs::RankLaws::falling))]
 pub fn fall(survey: &Survey<'_>, ranks: &[u32; 512]) -> bool
-    ensures { result ≡ true → Falls survey.now.words.now ranks.now (length survey.now.words.now / 3) }
+    ensures { result ≡ true → Falls survey.now.network.words.now ranks.now (length survey.now.network.words.now / 3) }
 {
-    for i in 0..survey.links() {
+    for i in 0..survey.network.links() {
         if !falls_at(survey, ranks, i) {
             return false;
         }

@@ -27,8 +27,8 @@ fn peel_unmet(left: &mut [u32], met: &[u32]) -> bool
 // One pass: who has a customer left is met, who is not is taken away. Whether one was.
 #[tactic(auto, using(crate::proofs::RoundLaws::rounds))]
 fn peel(survey: &Survey<'_>, left: &mut [u32], met: &mut [u32]) -> bool
-    requires { (length left.old ≡ survey.now.ases) × (length met.old ≡ survey.now.ases) }
-    ensures { Round survey.now.words.now left.old left.new result }
+    requires { (length left.old ≡ survey.now.network.ases) × (length met.old ≡ survey.now.network.ases) }
+    ensures { Round survey.now.network.words.now left.old left.new result }
 {
     met.fill(0);
     survey.tell(PROVIDES, Way::Up, left, met);
@@ -38,8 +38,8 @@ fn peel(survey: &Survey<'_>, left: &mut [u32], met: &mut [u32]) -> bool
 // Passes until one takes none away.
 #[tactic(auto, using(crate::proofs::RoundLaws::strips))]
 fn strip(survey: &Survey<'_>, left: &mut [u32], met: &mut [u32])
-    requires { (length left.old ≡ survey.now.ases) × (length met.old ≡ survey.now.ases) }
-    ensures { Bare survey.now.words.now left.old left.new }
+    requires { (length left.old ≡ survey.now.network.ases) × (length met.old ≡ survey.now.network.ases) }
+    ensures { Bare survey.now.network.words.now left.old left.new }
 {
     while peel(survey, left, met) {}
 }
@@ -47,9 +47,9 @@ fn strip(survey: &Survey<'_>, left: &mut [u32], met: &mut [u32])
 // Who has a rank is taken away at once, if the ranks show that none of them is on a ring.
 #[tactic(auto, using(crate::proofs::RankLaws::ring_spares))]
 fn peel_ranked(survey: &Survey<'_>, left: &mut [u32])
-    requires size { length left.old ≡ survey.now.ases }
-    requires rings { RingsLeft survey.now.words.now left.old }
-    ensures { RingsLeft survey.now.words.now left.new }
+    requires size { length left.old ≡ survey.now.network.ases }
+    requires rings { RingsLeft survey.now.network.words.now left.old }
+    ensures { RingsLeft survey.now.network.words.now left.new }
 {
     let ranks = order::ranks(survey);
     if ranks::fall(survey, &ranks) {
@@ -60,9 +60,9 @@ fn peel_ranked(survey: &Survey<'_>, left: &mut [u32])
 // Whether there is a customer ring, where every AS is left.
 #[tactic(auto, using(crate::proofs::RoundLaws::rings_found))]
 pub fn has_ring(survey: &Survey<'_>, left: &mut [u32], met: &mut [u32]) -> bool
-    requires sizes { (length left.old ≡ survey.now.ases) × (length met.old ≡ survey.now.ases) }
-    requires rings { RingsLeft survey.now.words.now left.old }
-    ensures { result ≡ ringed (links_of survey.now.words.now) }
+    requires sizes { (length left.old ≡ survey.now.network.ases) × (length met.old ≡ survey.now.network.ases) }
+    requires rings { RingsLeft survey.now.network.words.now left.old }
+    ensures { result ≡ ringed (links_of survey.now.network.words.now) }
 {
     peel_ranked(survey, left);
     strip(survey, left, met);

@@ -3,6 +3,8 @@ ghost use Rattle.std.specs.Prelude.{◌*◌, ◌/◌, ◌≤◌, ◌≡◌, leng
 ghost use Rattle.rules.specs.Network.{links_of, ases_of};
 ghost use Rattle.offers.specs.Ways.{places_of};
 
+use network::Network;
+
 // Way over a link: down from a to b, or up from b to a.
 #[derive(Clone, Copy, Debug, PartialEq, Eq)]
 pub enum Way {
@@ -19,14 +21,13 @@ pub const PROVIDES: u32 = 1;
 // Accepted links with how many ASes they name, and with two words per link that say where its ends a and b stand among the ascending ASes.
 #[derive(Clone, Copy, Debug)]
 pub struct Survey<'a> {
-    pub words: &'a [u32],
+    pub network: Network<'a>,
     pub places: &'a [u32],
-    pub ases: usize,
-    ghost placed: { places.now ≡ places_of (ases_of (links_of words.now)) (links_of words.now) },
-    ghost two_each: { length places.now ≡ 2 * (length words.now / 3) },
-    ghost counted: { ases ≡ length (ases_of (links_of words.now)) },
-    ghost few_ases: { ases ≤ 512 },
-    ghost few_links: { length words.now ≤ 4608 },
+    ghost placed: { places.now ≡ places_of (ases_of (links_of network.words.now)) (links_of network.words.now) },
+    ghost two_each: { length places.now ≡ 2 * (length network.words.now / 3) },
+    ghost counted: { network.ases ≡ length (ases_of (links_of network.words.now)) },
+    ghost few_ases: { network.ases ≤ 512 },
+    ghost few_links: { length network.words.now ≤ 4608 },
 }
 
 impl<'a> Survey<'a> {
@@ -35,20 +36,13 @@ impl<'a> Survey<'a> {
     ghost use Rattle.findings.specs.Flags.{place};
     ghost use Rattle.findings.specs.Tellings.{teller, hearer, Told};
 
-    // How many links there are.
-    pub fn links(&self) -> usize
-        ensures { result ≡ length self.now.words.now / 3 }
-    {
-        self.words.len() / network::WORDS_PER_LINK
-    }
-
     // Where who tells over link i stands, and where who hears.
     #[tactic(auto, using(crate::proofs::TellerLaws::placed_ends), unfolding(crate::specs::Tellings::teller, crate::specs::Tellings::hearer))]
     pub fn ends(&self, way: Way, i: usize) -> (usize, usize)
-        requires { 3 * i + 3 ≤ length self.now.words.now }
-        ensures teller { result.0 ≡ place self.now.words.now (teller way (link_in_words self.now.words.now i)) }
-        ensures hearer { result.1 ≡ place self.now.words.now (hearer way (link_in_words self.now.words.now i)) }
-        ensures within { (result.0 < self.now.ases) × (result.1 < self.now.ases) }
+        requires { 3 * i + 3 ≤ length self.now.network.words.now }
+        ensures teller { result.0 ≡ place self.now.network.words.now (teller way (link_in_words self.now.network.words.now i)) }
+        ensures hearer { result.1 ≡ place self.now.network.words.now (hearer way (link_in_words self.now.network.words.now i)) }
+        ensures within { (result.0 < self.now.network.ases) × (result.1 < self.now.network.ases) }
     {
         let a = self.places[2 * i] as usize;
         let b = self.places[2 * i + 1] as usize;
@@ -61,12 +55,12 @@ impl<'a> Survey<'a> {
     // The pass over link i: if it has the relation, and the AS that tells has its flag set, the flag of the one that hears is set.
     #[tactic(auto, using(crate::proofs::TellLaws::told_link))]
     pub fn tell_over(&self, relation: u32, way: Way, i: usize, from: &[u32], to: &mut [u32])
-        requires within { 3 * i + 3 ≤ length self.now.words.now }
-        requires sizes { (length from.now ≡ self.now.ases) × (length to.old ≡ self.now.ases) }
-        ensures { Told self.now.words.now relation way from.now (link_in_words self.now.words.now i ∷ []) to.old to.new }
+        requires within { 3 * i + 3 ≤ length self.now.network.words.now }
+        requires sizes { (length from.now ≡ self.now.network.ases) × (length to.old ≡ self.now.network.ases) }
+        ensures { Told self.now.network.words.now relation way from.now (link_in_words self.now.network.words.now i ∷ []) to.old to.new }
     {
         let (teller, hearer) = self.ends(way, i);
-        if network::link_at(self.words, i).relation == relation && from[teller] == 1 {
+        if network::link_at(self.network.words, i).relation == relation && from[teller] == 1 {
             to[hearer] = 1;
         }
     }
@@ -74,10 +68,10 @@ impl<'a> Survey<'a> {
     // The pass over all links.
     #[tactic(auto, using(crate::proofs::TellLaws::going))]
     pub fn tell(&self, relation: u32, way: Way, from: &[u32], to: &mut [u32])
-        requires { (length from.now ≡ self.now.ases) × (length to.old ≡ self.now.ases) }
-        ensures { Told self.now.words.now relation way from.now (links_of self.now.words.now) to.old to.new }
+        requires { (length from.now ≡ self.now.network.ases) × (length to.old ≡ self.now.network.ases) }
+        ensures { Told self.now.network.words.now relation way from.now (links_of self.now.network.words.now) to.old to.new }
     {
-        for i in 0..self.links() {
+        for i in 0..self.network.links() {
             self.tell_over(relation, way, i, from, to);
         }
     }

@@ -11,9 +11,9 @@ use crate::survey::{PEERS, PROVIDES, Survey, Way};
 // Every AS is left, and who has a provider is told so.
 #[tactic(auto, using(crate::proofs::TopLaws::starts))]
 pub fn start(survey: &Survey<'_>, left: &mut [u32], served: &mut [u32])
-    requires { (length left.old ≡ survey.now.ases) × (length served.old ≡ survey.now.ases) }
-    ensures left { Everybody survey.now.words.now left.new }
-    ensures served { Served survey.now.words.now served.new }
+    requires { (length left.old ≡ survey.now.network.ases) × (length served.old ≡ survey.now.network.ases) }
+    ensures left { Everybody survey.now.network.words.now left.new }
+    ensures served { Served survey.now.network.words.now served.new }
 {
     left.fill(1);
     served.fill(0);
@@ -36,8 +36,8 @@ pub struct Tops<'a> {
     pub survey: Survey<'a>,
     pub served: &'a [u32],
     pub index: &'a [u32],
-    ghost size: { length served.now ≡ survey.ases },
-    ghost told: { Served survey.words.now served.now },
+    ghost size: { length served.now ≡ survey.network.ases },
+    ghost told: { Served survey.network.words.now served.now },
 }
 
 impl<'a> Tops<'a> {
@@ -50,8 +50,8 @@ impl<'a> Tops<'a> {
     // The peers of the chosen AS are met.
     #[tactic(auto, using(crate::proofs::TopLaws::peers_met))]
     fn meet_peers(&self, chosen: &[u32], met: &mut [u32])
-        requires { (length chosen.now ≡ self.now.survey.ases) × (length met.old ≡ self.now.survey.ases) }
-        ensures { Peered self.now.survey.words.now chosen.now met.old met.new }
+        requires { (length chosen.now ≡ self.now.survey.network.ases) × (length met.old ≡ self.now.survey.network.ases) }
+        ensures { Peered self.now.survey.network.words.now chosen.now met.old met.new }
     {
         self.survey.tell(PEERS, Way::Down, chosen, met);
         self.survey.tell(PEERS, Way::Up, chosen, met);
@@ -59,7 +59,7 @@ impl<'a> Tops<'a> {
 
     // Whether every top is met.
     fn all_met(&self, met: &[u32]) -> bool
-        requires { length met.now ≡ self.now.survey.ases }
+        requires { length met.now ≡ self.now.survey.network.ases }
         ensures { AllMet self.now.served.now met.now result }
     {
         (0..met.len()).all(|k| (self.served[k] == 1) | (met[k] == 1))
@@ -68,9 +68,9 @@ impl<'a> Tops<'a> {
     // Whether the top at place p is seen to be a peer of every other top, by its own links.
     #[tactic(auto, using(crate::proofs::MeetLaws::seemingly))]
     fn seems_met(&self, p: usize, chosen: &mut [u32], met: &mut [u32]) -> bool
-        requires within { p < self.now.survey.ases }
-        requires sizes { (length chosen.old ≡ self.now.survey.ases) × (length met.old ≡ self.now.survey.ases) }
-        ensures { result ≡ true → meets_at self.now.survey.words.now p ≡ true }
+        requires within { p < self.now.survey.network.ases }
+        requires sizes { (length chosen.old ≡ self.now.survey.network.ases) × (length met.old ≡ self.now.survey.network.ases) }
+        ensures { result ≡ true → meets_at self.now.survey.network.words.now p ≡ true }
     {
         set_alone(chosen, p);
         set_alone(met, p);
@@ -81,9 +81,9 @@ impl<'a> Tops<'a> {
     // Whether the top at place p is a peer of every other top, by all links.
     #[tactic(auto, using(crate::proofs::MeetLaws::surely))]
     fn meets_surely(&self, p: usize, chosen: &mut [u32], met: &mut [u32]) -> bool
-        requires top { (p < self.now.survey.ases) × (flag_at self.now.served.now p ≡ false) }
-        requires sizes { (length chosen.old ≡ self.now.survey.ases) × (length met.old ≡ self.now.survey.ases) }
-        ensures { result ≡ meets_at self.now.survey.words.now p }
+        requires top { (p < self.now.survey.network.ases) × (flag_at self.now.served.now p ≡ false) }
+        requires sizes { (length chosen.old ≡ self.now.survey.network.ases) × (length met.old ≡ self.now.survey.network.ases) }
+        ensures { result ≡ meets_at self.now.survey.network.words.now p }
     {
         set_alone(chosen, p);
         set_alone(met, p);
@@ -94,9 +94,9 @@ impl<'a> Tops<'a> {
     // Whether the AS at place p is a peer of every other top, or no top.
     #[tactic(auto, using(crate::proofs::MeetLaws::unserved))]
     fn meets(&self, p: usize, chosen: &mut [u32], met: &mut [u32]) -> bool
-        requires within { p < self.now.survey.ases }
-        requires sizes { (length chosen.old ≡ self.now.survey.ases) × (length met.old ≡ self.now.survey.ases) }
-        ensures { result ≡ meets_at self.now.survey.words.now p }
+        requires within { p < self.now.survey.network.ases }
+        requires sizes { (length chosen.old ≡ self.now.survey.network.ases) × (length met.old ≡ self.now.survey.network.ases) }
+        ensures { result ≡ meets_at self.now.survey.network.words.now p }
     {
         if self.served[p] == 1 {
             return true;
@@ -110,10 +110,10 @@ impl<'a> Tops<'a> {
     // Whether every AS is one.
     #[tactic(auto, using(crate::proofs::MeetLaws::joinings))]
     fn all_meet(&self, chosen: &mut [u32], met: &mut [u32]) -> bool
-        requires { (length chosen.old ≡ self.now.survey.ases) × (length met.old ≡ self.now.survey.ases) }
-        ensures { result ≡ joined (links_of self.now.survey.words.now) }
+        requires { (length chosen.old ≡ self.now.survey.network.ases) × (length met.old ≡ self.now.survey.network.ases) }
+        ensures { result ≡ joined (links_of self.now.survey.network.words.now) }
     {
-        for p in 0..self.survey.ases {
+        for p in 0..self.survey.network.ases {
             if !self.meets(p, chosen, met) {
                 return false;
             }
@@ -124,9 +124,9 @@ impl<'a> Tops<'a> {
 
 // Whether the network is joined, where who has a provider is known.
 pub fn is_joined(survey: Survey<'_>, served: &[u32], chosen: &mut [u32], met: &mut [u32]) -> bool
-    requires served { (length served.now ≡ survey.ases) × Served survey.words.now served.now }
-    requires sizes { (length chosen.old ≡ survey.ases) × (length met.old ≡ survey.ases) }
-    ensures { result ≡ joined (links_of survey.entry.words.now) }
+    requires served { (length served.now ≡ survey.network.ases) × Served survey.network.words.now served.now }
+    requires sizes { (length chosen.old ≡ survey.network.ases) × (length met.old ≡ survey.network.ases) }
+    ensures { result ≡ joined (links_of survey.entry.network.words.now) }
 {
     let mut index = [0u32; marks::INDEX];
     marks::note_peers(&survey, &mut index);

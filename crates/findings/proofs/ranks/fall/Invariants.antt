@@ -3,4 +3,4 @@ use Rattle.findings.specs.Ranks.{Falls}
 use Rattle.findings.proofs.ranks.fall.Given as goal
 
 abbrev pub invariant-loop-i : goal.invariant-loop-i
-invariant-loop-i l = Falls l.survey.words.now l.ranks l.i
+invariant-loop-i l = Falls l.survey.network.words.now l.ranks l.i

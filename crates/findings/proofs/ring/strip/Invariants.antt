@@ -7,7 +7,7 @@ abbrev pub invariant-loop : goal.invariant-loop
 invariant-loop l = record {
   left_size : length l.left ≡ length l.initial.left;
   met_size : length l.met ≡ length l.initial.met;
-  rings : RingsLeft l.survey.words.now l.initial.left → RingsLeft l.survey.words.now l.left;
+  rings : RingsLeft l.survey.network.words.now l.initial.left → RingsLeft l.survey.network.words.now l.left;
 }
 
 abbrev pub decreases-loop : goal.decreases-loop

@@ -8,5 +8,5 @@ use Rattle.findings.proofs.survey.Survey.tell.Given as goal
 abbrev pub invariant-loop-i : goal.invariant-loop-i
 invariant-loop-i l = record {
   size : length l.to ≡ length l.initial.to;
-  going : Going l.self.words.now l.relation l.way l.from (links_from l.self.words.now l.i) (links_of l.self.words.now) l.initial.to l.to;
+  going : Going l.self.network.words.now l.relation l.way l.from (links_from l.self.network.words.now l.i) (links_of l.self.network.words.now) l.initial.to l.to;
 }

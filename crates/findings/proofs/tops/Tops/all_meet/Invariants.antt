@@ -7,5 +7,5 @@ abbrev pub invariant-loop-p : goal.invariant-loop-p
 invariant-loop-p l = record {
   chosen_size : length l.chosen ≡ length l.initial.chosen;
   met_size : length l.met ≡ length l.initial.met;
-  met : (k : ℕ) → k < l.p → meets_at l.self.survey.words.now k ≡ true;
+  met : (k : ℕ) → k < l.p → meets_at l.self.survey.network.words.now k ≡ true;
 }
