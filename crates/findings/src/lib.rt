@@ -48,13 +48,14 @@ fn look(
     Found { ring, joined }
 }
 
-// The findings on accepted links in a room that suffices: two words per link for the places of its ends, then a word per AS for each list
-// of flags.
+// The findings on accepted links in a room that suffices, which is zero afterwards: two words per link for the places of its ends, then a
+// word per AS for each list of flags.
 #[tactic(auto, using(std::proofs::lemmas::Grind::common_steps, crate::proofs::EntryLaws::accepted))]
 fn look_in(network: Network<'_>, room: &mut [u32]) -> Found
     requires { 8 * (length network.words.now / 3) + 8 * network.ases ≤ length room.old }
     ensures ring { result.ring ≡ ringed (links_of network.entry.words.now) }
     ensures joined { result.joined ≡ joined (links_of network.entry.words.now) }
+    ensures room_after { room.new ≡ replicate (length room.old) 0 }
 {
     let n = network.ases;
     let mut list = [0u32; 512];
@@ -65,7 +66,9 @@ fn look_in(network: Network<'_>, room: &mut [u32]) -> Found
     let (left, flags) = flags.split_at_mut(n);
     let (served, flags) = flags.split_at_mut(n);
     let (chosen, flags) = flags.split_at_mut(n);
-    look(survey, left, served, chosen, &mut flags[..n])
+    let found = look(survey, left, served, chosen, &mut flags[..n]);
+    room.fill(0);
+    found
 }
 
 // The findings on accepted links, or refusal 8.
@@ -77,9 +80,7 @@ fn find_in(network: Network<'_>, room: &mut [u32]) -> Result<Found, Refusal>
     if room.len() < network::room_need(network.links(), network.ases) {
         return Err(Refusal::RoomShort);
     }
-    let found = look_in(network, room);
-    room.fill(0);
-    Ok(found)
+    Ok(look_in(network, room))
 }
 
 // The findings on accepted links with n ASes, or refusal 8.

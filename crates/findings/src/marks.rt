@@ -14,13 +14,10 @@ pub const INDEX: usize = 3584;
 
 // Notes both directions of each peer link, under the AS that tells.
 pub fn note_peers(survey: &Survey<'_>, index: &mut [u32]) {
-    for i in 0..survey.network.links() {
-        if network::link_at(survey.network.words, i).relation == PEERS {
-            let (a, b) = survey.ends(Way::Down, i);
-            scratch::note(index, HEADS + b, 2 * i);
-            scratch::note(index, HEADS + a, 2 * i + 1);
-        }
-    }
+    survey.each_link(PEERS, |i, a, b| {
+        scratch::note(index, HEADS + b, 2 * i);
+        scratch::note(index, HEADS + a, 2 * i + 1);
+    });
 }
 
 // The chosen AS tells over link i, either way.

@@ -46,13 +46,10 @@ struct Guess {
 impl Guess {
     // Every provider link is noted, under its customer, and counted for its provider.
     fn note_links(&mut self, survey: &Survey<'_>) {
-        for i in 0..survey.network.links() {
-            if network::link_at(survey.network.words, i).relation == PROVIDES {
-                let (provider, customer) = survey.ends(Way::Down, i);
-                scratch::note(&mut self.index, CUSTOMERS + customer, i);
-                self.customers[provider] = self.customers[provider].saturating_add(1);
-            }
-        }
+        survey.each_link(PROVIDES, |i, provider, customer| {
+            scratch::note(&mut self.index, CUSTOMERS + customer, i);
+            self.customers[provider] = self.customers[provider].saturating_add(1);
+        });
     }
 
     // Every AS that has no customer waits.

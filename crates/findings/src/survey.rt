@@ -31,7 +31,7 @@ pub struct Survey<'a> {
 }
 
 impl<'a> Survey<'a> {
-    ghost use Rattle.std.specs.Prelude.{◌+◌, ◌*◌, ◌/◌, ◌≤◌, ◌<◌, ◌≡◌, length, [], ◌∷◌};
+    ghost use Rattle.std.specs.Prelude.{ℕ, ◌+◌, ◌*◌, ◌/◌, ◌≤◌, ◌<◌, ◌≡◌, length, [], ◌∷◌};
     ghost use Rattle.rules.specs.Network.{links_of, link_in_words};
     ghost use Rattle.findings.specs.Flags.{place};
     ghost use Rattle.findings.specs.Tellings.{teller, hearer, Told};
@@ -49,6 +49,18 @@ impl<'a> Survey<'a> {
         match way {
             Way::Down => (a, b),
             Way::Up => (b, a),
+        }
+    }
+
+    // Shows each link of a relation: its number, and where its ends a and b stand.
+    pub fn each_link<F: FnMut(usize, usize, usize)>(&self, relation: u32, mut show: F)
+        requires { (state : F) (i a b : ℕ) → i < 1536 → a < 512 → b < 512 → F.pre state i a b }
+    {
+        for i in 0..self.network.links() {
+            if network::link_at(self.network.words, i).relation == relation {
+                let (a, b) = self.ends(Way::Down, i);
+                show(i, a, b);
+            }
         }
     }
 

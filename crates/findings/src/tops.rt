@@ -98,13 +98,7 @@ impl<'a> Tops<'a> {
         requires sizes { (length chosen.old ≡ self.now.survey.network.ases) × (length met.old ≡ self.now.survey.network.ases) }
         ensures { result ≡ meets_at self.now.survey.network.words.now p }
     {
-        if self.served[p] == 1 {
-            return true;
-        }
-        if self.seems_met(p, chosen, met) {
-            return true;
-        }
-        self.meets_surely(p, chosen, met)
+        self.served[p] == 1 || self.seems_met(p, chosen, met) || self.meets_surely(p, chosen, met)
     }
 
     // Whether every AS is one.
