@@ -1,4 +1,4 @@
-// Two findings on a network: whether it has a customer ring, and whether it is joined.
+//! Two findings on a network: whether it has a customer ring, and whether it is joined.
 #![tactic(auto, unfolding(rules::specs::Network::links_of, rules::specs::Findings::ringed, rules::specs::Findings::joined, rules::specs::Checks::check_words, crate::specs::Entries::findings_reply, crate::specs::Entries::final_room))]
 
 ghost use Rattle.std.specs.Prelude.{◌+◌, ◌*◌, ◌/◌, ◌≤◌, ◌≡◌, length, replicate, Ok};
@@ -20,7 +20,7 @@ mod ring;
 mod survey;
 mod tops;
 
-// Whether there is a customer ring, and whether the network is joined.
+/// Whether there is a customer ring, and whether the network is joined.
 #[derive(Clone, Copy, Debug, PartialEq, Eq)]
 pub struct Found {
     pub ring: bool,
@@ -83,7 +83,7 @@ fn find_in(network: Network<'_>, room: &mut [u32]) -> Result<Found, Refusal>
     Ok(look_in(network, room))
 }
 
-// The findings on accepted links with n ASes, or refusal 8.
+/// The findings on accepted links with n ASes, or refusal 8.
 pub fn find_accepted(words: &[u32], n: usize, room: &mut [u32]) -> Result<Found, Refusal>
     requires { check_words base_limits words.now ≡ Ok n }
     ensures value { result ≡ findings_reply base_limits words.now (length room.old) }
@@ -92,7 +92,7 @@ pub fn find_accepted(words: &[u32], n: usize, room: &mut [u32]) -> Result<Found,
     find_in(Network { words, ases: n }, room)
 }
 
-// Whether there is a customer ring, and whether the network is joined. The room is zero afterwards; a refusal leaves it as it was.
+/// Whether there is a customer ring, and whether the network is joined. The room is zero afterwards; a refusal leaves it as it was.
 #[tactic(auto, using(crate::proofs::EntryLaws::replies))]
 pub fn find(words: &[u32], room: &mut [u32]) -> Result<Found, Refusal>
     ensures value { result ≡ findings_reply base_limits words.now (length room.old) }

@@ -1,5 +1,5 @@
-// Peers of one AS, met quickly: over the peer links noted for it alone. Whoever is met so is a peer; that all peers are met is not proved:
-// where a top is missed, the passes over all links (tops.rt) have the last word.
+//! Peers of one AS, met quickly: over the peer links noted for it alone. Whoever is met so is a peer; that all peers are met is not proved:
+//! where a top is missed, the passes over all links (tops.rt) have the last word.
 ghost use Rattle.std.specs.Prelude.{◌+◌, ◌*◌, ◌≤◌, ◌<◌, ◌≡◌, length};
 ghost use Rattle.findings.specs.Joinings.{Hinted};
 
@@ -7,12 +7,12 @@ use crate::survey::{PEERS, Survey, Way};
 use offers::scratch;
 
 // Where the heads of an index (offers::scratch) of directions begin: one for each AS.
-const HEADS: usize = 3072;
+const HEADS: usize = 2 * scratch::LINKS;
 
-// How many words the index has.
-pub const INDEX: usize = 3584;
+/// How many words the index has.
+pub const INDEX: usize = HEADS + scratch::ASES;
 
-// Notes both directions of each peer link, under the AS that tells.
+/// Notes both directions of each peer link, under the AS that tells.
 pub fn note_peers(survey: &Survey<'_>, index: &mut [u32]) {
     survey.each_link(PEERS, |i, a, b| {
         scratch::note(index, HEADS + b, 2 * i);
@@ -31,7 +31,7 @@ fn meet_over(survey: &Survey<'_>, i: usize, chosen: &[u32], met: &mut [u32])
     survey.tell_over(PEERS, Way::Up, i, chosen, met);
 }
 
-// The peers of the AS at place p, which is chosen, are met.
+/// The peers of the AS at place p, which is chosen, are met.
 #[tactic(auto, using(crate::proofs::HintLaws::hints))]
 pub fn meet_noted_peers(
     survey: &Survey<'_>,

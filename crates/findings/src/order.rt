@@ -1,17 +1,20 @@
-// An order in which ASes can be taken away, customers before providers, guessed quickly: whoever has no customer left goes. Nothing is
-// proved of it: rightness rests on the look at the ranks (ranks.rt) and on the passes (ring.rt), and speed on this guess.
+//! An order in which ASes can be taken away, customers before providers, guessed quickly: whoever has no customer left goes. Nothing is
+//! proved of it: rightness rests on the look at the ranks (ranks.rt) and on the passes (ring.rt), and speed on this guess.
 ghost use Rattle.std.specs.Prelude.{◌+◌, ◌≤◌, ◌<◌, ◌≡◌, IfSome};
 
 use crate::survey::{PROVIDES, Survey, Way};
-use offers::scratch;
+use offers::scratch::{self, ASES};
 
-// Where the heads of the index (offers::scratch) of provider links begin: one for each AS, its customer.
-const CUSTOMERS: usize = 1536;
+// Where the heads of the index (offers::scratch) of provider links begin: one for each customer.
+const CUSTOMERS: usize = scratch::LINKS;
+
+// How many words the index has.
+const INDEX: usize = CUSTOMERS + ASES;
 
 // Places of ASes that wait, the latest on top.
 #[derive(Drop)]
 struct Stack {
-    places: [u32; 512],
+    places: [u32; ASES],
     height: usize,
     ghost fits: { height ≤ 512 },
 }
@@ -21,7 +24,7 @@ impl Stack {
     fn push(&mut self, place: usize)
         requires { place < 512 }
     {
-        if self.height < 512 {
+        if self.height < ASES {
             self.places[self.height] = place as u32;
             self.height += 1;
         }
@@ -38,8 +41,8 @@ impl Stack {
 // The state of the guess: the index, how many customers the AS at each place has left, and those that have none left.
 #[derive(Drop)]
 struct Guess {
-    index: [u32; 2048],
-    customers: [u32; 512],
+    index: [u32; INDEX],
+    customers: [u32; ASES],
     bare: Stack,
 }
 
@@ -87,20 +90,20 @@ impl Guess {
     }
 }
 
-// The rank of each AS by its place, 1, 2, 3, .. in the order in which they go; who never goes has 0.
-pub fn ranks(survey: &Survey<'_>) -> [u32; 512] {
+/// The rank of each AS by its place, 1, 2, 3, .. in the order in which they go; who never goes has 0.
+pub fn ranks(survey: &Survey<'_>) -> [u32; ASES] {
     let mut guess = Guess {
-        index: [0; 2048],
-        customers: [0; 512],
+        index: [0; INDEX],
+        customers: [0; ASES],
         bare: Stack {
-            places: [0; 512],
+            places: [0; ASES],
             height: 0,
         },
     };
     guess.note_links(survey);
     guess.push_bare(survey.network.ases);
-    let mut ranks = [0u32; 512];
-    for rank in 1..513u32 {
+    let mut ranks = [0u32; ASES];
+    for rank in 1..=ASES as u32 {
         let Some(place) = guess.bare.pop() else {
             return ranks;
         };

@@ -1,9 +1,10 @@
-// A look at ranks of ASes, by place: where they fall along every link from provider to customer, and stay above 0, nobody with a rank
-// above 0 is on a ring.
+//! A look at ranks of ASes, by place: where they fall along every link from provider to customer, and stay above 0, nobody with a rank
+//! above 0 is on a ring.
 ghost use Rattle.std.specs.Prelude.{◌+◌, ◌*◌, ◌/◌, ◌≤◌, ◌<◌, ◌≡◌, true, length};
 ghost use Rattle.findings.specs.Ranks.{may_fall, falls_at, Falls, Spared};
 
 use crate::survey::{PROVIDES, Survey, Way};
+use offers::scratch::ASES;
 
 // Whether the lower rank may stand below the upper one.
 fn may_fall(upper: u32, lower: u32) -> bool
@@ -14,7 +15,7 @@ fn may_fall(upper: u32, lower: u32) -> bool
 
 // Whether the ranks fall along link i.
 #[tactic(auto, unfolding(crate::specs::Tellings::teller, crate::specs::Tellings::hearer))]
-fn falls_at(survey: &Survey<'_>, ranks: &[u32; 512], i: usize) -> bool
+fn falls_at(survey: &Survey<'_>, ranks: &[u32; ASES], i: usize) -> bool
     requires { 3 * i + 3 ≤ length survey.now.network.words.now }
     ensures { result ≡ falls_at survey.now.network.words.now ranks.now i }
 {
@@ -25,9 +26,9 @@ fn falls_at(survey: &Survey<'_>, ranks: &[u32; 512], i: usize) -> bool
     may_fall(ranks[provider], ranks[customer])
 }
 
-// Whether they fall along every link.
+/// Whether they fall along every link.
 #[tactic(auto, using(crate::proofs::RankLaws::falling))]
-pub fn fall(survey: &Survey<'_>, ranks: &[u32; 512]) -> bool
+pub fn fall(survey: &Survey<'_>, ranks: &[u32; ASES]) -> bool
     ensures { result ≡ true → Falls survey.now.network.words.now ranks.now (length survey.now.network.words.now / 3) }
 {
     for i in 0..survey.network.links() {
@@ -38,9 +39,9 @@ pub fn fall(survey: &Survey<'_>, ranks: &[u32; 512]) -> bool
     true
 }
 
-// All who have a rank are taken away.
+/// All who have a rank are taken away.
 #[tactic(auto, using(crate::proofs::RankLaws::spares))]
-pub fn spare(left: &mut [u32], ranks: &[u32; 512])
+pub fn spare(left: &mut [u32], ranks: &[u32; ASES])
     requires { length left.old ≤ 512 }
     ensures { Spared ranks.now left.old left.new }
 {

@@ -1,5 +1,5 @@
-// The customer ring: ASes that have no customer left are peeled off, pass after pass. A ring is there if and only if one is left. Most
-// often ranks peel off all of them at once, so that one pass more ends it.
+//! The customer ring: ASes that have no customer left are peeled off, pass after pass. A ring is there if and only if one is left. Most
+//! often ranks peel off all of them at once, so that one pass more ends it.
 ghost use Rattle.std.specs.Prelude.{◌+◌, ◌<◌, ◌≡◌, length};
 ghost use Rattle.rules.specs.Network.{links_of};
 ghost use Rattle.rules.specs.Findings.{ringed};
@@ -57,7 +57,7 @@ fn peel_ranked(survey: &Survey<'_>, left: &mut [u32])
     }
 }
 
-// Whether there is a customer ring, where every AS is left.
+/// Whether there is a customer ring, where every AS is left.
 #[tactic(auto, using(crate::proofs::RoundLaws::rings_found))]
 pub fn has_ring(survey: &Survey<'_>, left: &mut [u32], met: &mut [u32]) -> bool
     requires sizes { (length left.old ≡ survey.now.network.ases) × (length met.old ≡ survey.now.network.ases) }

@@ -1,24 +1,25 @@
-// A network with the places of its links' ends, and passes over its links.
+//! A network with the places of its links' ends, and passes over its links.
 ghost use Rattle.std.specs.Prelude.{◌*◌, ◌/◌, ◌≤◌, ◌≡◌, length};
 ghost use Rattle.rules.specs.Network.{links_of, ases_of};
 ghost use Rattle.offers.specs.Ways.{places_of};
 
 use network::Network;
 
-// Way over a link: down from a to b, or up from b to a.
+/// Way over a link: down from a to b, or up from b to a.
 #[derive(Clone, Copy, Debug, PartialEq, Eq)]
 pub enum Way {
     Down,
     Up,
 }
 
-// Relations of links.
-// Kept: (a) numbers, as `Link::relation` of the crate rules is one.
+// Kept: (a) relations are numbers, as `Link::relation` of the crate rules is one.
+/// Between peers.
 pub const PEERS: u32 = 0;
 
+/// From a provider, a, to its customer, b.
 pub const PROVIDES: u32 = 1;
 
-// Accepted links with how many ASes they name, and with two words per link that say where its ends a and b stand among the ascending ASes.
+/// Accepted links with how many ASes they name, and with two words per link that say where its ends a and b stand among the ascending ASes.
 #[derive(Clone, Copy, Debug)]
 pub struct Survey<'a> {
     pub network: Network<'a>,
@@ -36,7 +37,7 @@ impl<'a> Survey<'a> {
     ghost use Rattle.findings.specs.Flags.{place};
     ghost use Rattle.findings.specs.Tellings.{teller, hearer, Told};
 
-    // Where who tells over link i stands, and where who hears.
+    /// Where who tells over link i stands, and where who hears.
     #[tactic(auto, using(crate::proofs::TellerLaws::placed_ends), unfolding(crate::specs::Tellings::teller, crate::specs::Tellings::hearer))]
     pub fn ends(&self, way: Way, i: usize) -> (usize, usize)
         requires { 3 * i + 3 ≤ length self.now.network.words.now }
@@ -52,7 +53,7 @@ impl<'a> Survey<'a> {
         }
     }
 
-    // Shows each link of a relation: its number, and where its ends a and b stand.
+    /// Shows each link of a relation: its number, and where its ends a and b stand.
     pub fn each_link<F: FnMut(usize, usize, usize)>(&self, relation: u32, mut show: F)
         requires { (state : F) (i a b : ℕ) → i < 1536 → a < 512 → b < 512 → F.pre state i a b }
     {
@@ -64,7 +65,7 @@ impl<'a> Survey<'a> {
         }
     }
 
-    // The pass over link i: if it has the relation, and the AS that tells has its flag set, the flag of the one that hears is set.
+    /// The pass over link i: if it has the relation, and the AS that tells has its flag set, the flag of the one that hears is set.
     #[tactic(auto, using(crate::proofs::TellLaws::told_link))]
     pub fn tell_over(&self, relation: u32, way: Way, i: usize, from: &[u32], to: &mut [u32])
         requires within { 3 * i + 3 ≤ length self.now.network.words.now }
@@ -77,7 +78,7 @@ impl<'a> Survey<'a> {
         }
     }
 
-    // The pass over all links.
+    /// The pass over all links.
     #[tactic(auto, using(crate::proofs::TellLaws::going))]
     pub fn tell(&self, relation: u32, way: Way, from: &[u32], to: &mut [u32])
         requires { (length from.now ≡ self.now.network.ases) × (length to.old ≡ self.now.network.ases) }

@@ -1,5 +1,5 @@
-// Whether the network is joined: every two different tops are peers. For each top its peers are marked, and a top that is not marked is
-// looked for: first with the marks from its own links, and where they miss a top, by passes over all links.
+//! Whether the network is joined: every two different tops are peers. For each top its peers are marked, and a top that is not marked is
+//! looked for: first with the marks from its own links, and where they miss a top, by passes over all links.
 ghost use Rattle.std.specs.Prelude.{◌<◌, ◌≡◌, length};
 ghost use Rattle.rules.specs.Network.{links_of};
 ghost use Rattle.rules.specs.Findings.{joined};
@@ -8,7 +8,7 @@ ghost use Rattle.findings.specs.Joinings.{Everybody, Served, Chosen};
 use crate::marks;
 use crate::survey::{PEERS, PROVIDES, Survey, Way};
 
-// Every AS is left, and who has a provider is told so.
+/// Every AS is left, and who has a provider is told so.
 #[tactic(auto, using(crate::proofs::TopLaws::starts))]
 pub fn start(survey: &Survey<'_>, left: &mut [u32], served: &mut [u32])
     requires { (length left.old ≡ survey.now.network.ases) × (length served.old ≡ survey.now.network.ases) }
@@ -30,7 +30,7 @@ fn set_alone(flags: &mut [u32], p: usize)
     flags[p] = 1;
 }
 
-// The tops of a network: who has a provider, and the index by which peers are met quickly.
+/// The tops of a network: who has a provider, and the index by which peers are met quickly.
 #[derive(Clone, Copy, Debug)]
 pub struct Tops<'a> {
     pub survey: Survey<'a>,
@@ -116,7 +116,7 @@ impl<'a> Tops<'a> {
     }
 }
 
-// Whether the network is joined, where who has a provider is known.
+/// Whether the network is joined, where who has a provider is known.
 pub fn is_joined(survey: Survey<'_>, served: &[u32], chosen: &mut [u32], met: &mut [u32]) -> bool
     requires served { (length served.now ≡ survey.network.ases) × Served survey.network.words.now served.now }
     requires sizes { (length chosen.old ≡ survey.network.ases) × (length met.old ≡ survey.network.ases) }
