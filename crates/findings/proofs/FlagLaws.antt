@@ -1,15 +1,15 @@
 -- One flag, and many: what is set, what is another's, and what a filled list says.
 use Prim.Native.Nat.{ℕ, ◌<◌}
-use mathlib.Core.Path.{◌≡◌, ◌∙◌, ap}
+use mathlib.Core.Path.{◌≡◌, ap}
 use mathlib.Core.Logic.{◌≢◌}
 use mathlib.Core.List.{List}
 use native.Mathlib.Omega.{arith}
 use lib.Dec.{eqb}
-use lib.ListN.{length, get_or, set, replicate}
+use lib.ListN.{length, set, replicate}
 use lib.Seq.{get_or-set_same, get_or-set_other}
 use Rattle.std.proofs.lemmas.List.{get_or-replicate}
 use Rattle.rules.specs.Lists.{In}
-use Rattle.findings.specs.Flags.{ases_in, place, flag_at, flag, Sized}
+use Rattle.findings.specs.Flags.{ases_in, place, flag_at, flag}
 use Rattle.findings.proofs.TellerLaws.{place_below}
 
 pub set_flag : (t : List ℕ) (k v : ℕ) → k < length t → flag_at (set t k v) k ≡ eqb v 1

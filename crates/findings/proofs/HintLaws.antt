@@ -15,7 +15,7 @@ use Rattle.findings.specs.declared.survey.Way.{Way}
 use Rattle.findings.specs.declared.survey.Way.TheVariants.{Down, Up}
 use Rattle.findings.specs.Flags.{ases_in, flag}
 use Rattle.findings.specs.Tellings.{tells, heard, Told}
-use Rattle.findings.specs.Joinings.{met_after, Hinted}
+use Rattle.findings.specs.Joinings.{Hinted}
 
 -- one of three is true
 first : (a b d : Bool) → a ≡ true → (a || b || d) ≡ true

@@ -1,5 +1,5 @@
 -- One top against all others, and all of them: what the flags say at every place is what the tests say of every AS.
-use Prim.Native.Nat.{ℕ, ◌≤◌, ◌<◌}
+use Prim.Native.Nat.{ℕ, ◌<◌}
 use mathlib.Core.Path.{◌≡◌, refl, sym, ◌∙◌, ap}
 use mathlib.Core.Logic.{⊎_elim}
 use mathlib.Core.Bool.{Bool, true, false, not, ◌&&◌, ◌||◌, false≢true}
@@ -19,7 +19,6 @@ use Rattle.offers.specs.Ways.{index_in}
 use Rattle.offers.proofs.PlaceLaws.{place-In, place_at}
 use Rattle.findings.specs.declared.survey.Way.TheVariants.{Down, Up}
 use Rattle.findings.specs.Flags.{ases_in, place, flag_at, flag}
-use Rattle.findings.specs.Tellings.{heard}
 use Rattle.findings.specs.Joinings.{Served, Chosen, met_after, Peered, Hinted, is_met_at, AllMet, pair_joined, meets, meets_at}
 use Rattle.findings.proofs.TellerLaws.{place_below}
 use Rattle.findings.proofs.TellLaws.{heard_same}

@@ -1,14 +1,13 @@
 -- Peeling place by place: who is left is who was left and is met, and each one taken away makes them fewer.
 use Prim.Native.Nat.{ℕ, zero, suc, ◌+◌, ◌≤◌, ◌<◌}
 use mathlib.Core.Path.{◌≡◌, refl, sym, ◌∙◌, ap, subst}
-use mathlib.Core.Logic.{◌⊎◌, ⊎_elim, ◌≢◌}
+use mathlib.Core.Logic.{⊎_elim, ◌≢◌}
 use mathlib.Core.Bool.{Bool, true, false, ◌&&◌, and-false}
 use mathlib.Core.List.{List}
 use native.Mathlib.Omega.{arith}
 use native.Mathlib.Nat.{lt_trans}
 use borrow.Author.Count.{below_none, below_more}
 use borrow.Author.Tests.{eq-eqb, ne_eqb, eqb-true}
-use lib.Dec.{eqb}
 use lib.ListN.{length, get_or, set, length-set}
 use Rattle.network.proofs.Numbers.{same?}
 use Rattle.findings.specs.Flags.{flag_at}

@@ -7,18 +7,17 @@ use mathlib.Core.Bool.{Bool, true, false, false≢true}
 use mathlib.Core.List.{List}
 use native.Mathlib.Omega.{arith}
 use lib.ListN.{length, get_or, replicate}
-use Rattle.rules.specs.declared.Link.{Link}
 use Rattle.rules.specs.Lists.{In}
 use Rattle.rules.specs.Network.{links_of}
 use Rattle.rules.specs.Findings.{ringed}
-use Rattle.rules.proofs.Tests.{and_right, and_yes, untrue}
+use Rattle.rules.proofs.Tests.{and_right, and_yes}
 use Rattle.rules.proofs.ListLaws.{any_of-true, any_of_one, at_in}
 use Rattle.rules.proofs.NetworkLaws.{ases_In, ases_Distinct}
 use Rattle.offers.proofs.PlaceLaws.{place_at}
 use Rattle.findings.specs.declared.survey.Way.TheVariants.{Up}
 use Rattle.findings.specs.Flags.{ases_in, place, flag_at, flag}
 use Rattle.findings.specs.Tellings.{teller, hearer, tells, Told}
-use Rattle.findings.specs.Peelings.{Fewer, Peeled, has_customer, Round, RingsLeft, Bare}
+use Rattle.findings.specs.Peelings.{Peeled, has_customer, Round, RingsLeft, Bare}
 use Rattle.findings.proofs.Chains.{Below, below_link, link_Below}
 use Rattle.findings.proofs.RingLaws.{ringed-Ring, Ring-ringed, reaches_as, ring_next, Left-Ring}
 use Rattle.findings.proofs.FlagLaws.{filled}

@@ -6,7 +6,6 @@ use mathlib.Core.Path.{◌≡◌, refl, sym, ◌∙◌, ap, subst}
 use mathlib.Core.Logic.{⊎_elim, ◌≢◌}
 use mathlib.Core.Bool.{Bool, true, false, ◌&&◌, ◌||◌, and-false, or-false}
 use mathlib.Core.List.{List, [], ◌∷◌}
-use native.Mathlib.Omega.{arith}
 use lib.Dec.{eqb}
 use lib.ListN.{length, get_or, set}
 use borrow.Author.Tests.{eq-eqb, ne_eqb, eqb-true}
@@ -20,7 +19,7 @@ use Rattle.network.proofs.Numbers.{same?}
 use Rattle.network.proofs.PrefixLaws.{links_next, links_end}
 use Rattle.offers.proofs.WayLaws.{link_In}
 use Rattle.findings.specs.declared.survey.Way.{Way}
-use Rattle.findings.specs.Flags.{ases_in, place, flag_at, flag}
+use Rattle.findings.specs.Flags.{ases_in, place, flag}
 use Rattle.findings.specs.Tellings.{teller, hearer, tells, heard, Told}
 use Rattle.findings.proofs.TellerLaws.{place_one, teller-In, hearer-In}
 use Rattle.findings.proofs.FlagLaws.{set_flag, set_other}

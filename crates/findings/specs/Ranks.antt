@@ -5,7 +5,7 @@
 --   falls_at ws rk i   the ranks fall along link i, if it is one from provider to customer
 --   Falls ws rk n      they fall along each of the first n links
 --   Spared rk t u      u is t for those who have no rank
-use Rattle.std.specs.Prelude.{ℕ, ◌+◌, ◌*◌, ◌<◌, ◌≡◌, Bool, true, not, ◌&&◌, ◌||◌, List, eqb, ltb, get_or}
+use Rattle.std.specs.Prelude.{ℕ, ◌<◌, ◌≡◌, Bool, true, not, ◌&&◌, ◌||◌, List, eqb, ltb, get_or}
 use Rattle.rules.specs.Network.{link_in_words}
 use Rattle.findings.specs.Flags.{place}
 
