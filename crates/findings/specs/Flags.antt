@@ -4,8 +4,7 @@
 --   place ws x         where the AS x stands among them
 --   flag_at t k        the flag at place k of t is set
 --   flag ws t x        so is that of the AS x
---   Sized ws t         t has a flag for each AS
-use Rattle.std.specs.Prelude.{ℕ, ◌≡◌, Bool, List, eqb, length, get_or}
+use Rattle.std.specs.Prelude.{ℕ, Bool, List, eqb, get_or}
 use Rattle.rules.specs.Network.{links_of, ases_of}
 use Rattle.offers.specs.Ways.{index_in}
 
@@ -20,6 +19,3 @@ flag_at t k = eqb (get_or t k 0) 1
 
 abbrev pub flag : List ℕ → List ℕ → ℕ → Bool
 flag ws t x = flag_at t (place ws x)
-
-abbrev pub Sized : List ℕ → List ℕ → Type 0
-Sized ws t = length t ≡ length (ases_in ws)

@@ -1,5 +1,5 @@
 //! Two findings on a network: whether it has a customer ring, and whether it is joined.
-#![tactic(auto, unfolding(rules::specs::Network::links_of, rules::specs::Findings::ringed, rules::specs::Findings::joined, rules::specs::Checks::check_words, crate::specs::Entries::findings_reply, crate::specs::Entries::final_room))]
+#![tactic(auto)]
 
 ghost use Rattle.std.specs.Prelude.{◌+◌, ◌*◌, ◌/◌, ◌≤◌, ◌≡◌, length, replicate, Ok};
 ghost use Rattle.rules.specs.Network.{links_of};
@@ -71,7 +71,7 @@ fn look_in(network: Network<'_>, room: &mut [u32]) -> Found
     found
 }
 
-// The findings on accepted links, or refusal 8.
+// The findings on accepted links, or the refusal of a room that is too short.
 #[tactic(auto, using(crate::proofs::EntryLaws::accepted, crate::proofs::EntryLaws::replies))]
 fn find_in(network: Network<'_>, room: &mut [u32]) -> Result<Found, Refusal>
     ensures value { result ≡ findings_reply base_limits network.entry.words.now (length room.old) }
@@ -83,7 +83,8 @@ fn find_in(network: Network<'_>, room: &mut [u32]) -> Result<Found, Refusal>
     Ok(look_in(network, room))
 }
 
-/// The findings on accepted links with n ASes, or refusal 8.
+/// The findings on link words that the check accepted, three per link, with `n` ASes; or `RoomShort` where the room has fewer words than
+/// `network::room_need` says. The room is zero afterwards; a refusal leaves it as it was.
 pub fn find_accepted(words: &[u32], n: usize, room: &mut [u32]) -> Result<Found, Refusal>
     requires { check_words base_limits words.now ≡ Ok n }
     ensures value { result ≡ findings_reply base_limits words.now (length room.old) }
@@ -92,7 +93,8 @@ pub fn find_accepted(words: &[u32], n: usize, room: &mut [u32]) -> Result<Found,
     find_in(Network { words, ases: n }, room)
 }
 
-/// Whether there is a customer ring, and whether the network is joined. The room is zero afterwards; a refusal leaves it as it was.
+/// Whether the network of these link words, three per link, has a customer ring, and whether it is joined; or the refusal of the links, or
+/// `RoomShort` where the room has fewer words than `network::room_need` says. The room is zero afterwards; a refusal leaves it as it was.
 #[tactic(auto, using(crate::proofs::EntryLaws::replies))]
 pub fn find(words: &[u32], room: &mut [u32]) -> Result<Found, Refusal>
     ensures value { result ≡ findings_reply base_limits words.now (length room.old) }

@@ -31,6 +31,8 @@ pub struct Survey<'a> {
     ghost few_links: { length network.words.now ≤ 4608 },
 }
 
+// Kept: (d) each contract says how long its flags are: with survey and flags in one struct, each method would say in its place that survey,
+// served and both loans stay, four clauses for one.
 impl<'a> Survey<'a> {
     ghost use Rattle.std.specs.Prelude.{ℕ, ◌+◌, ◌*◌, ◌/◌, ◌≤◌, ◌<◌, ◌≡◌, length, [], ◌∷◌};
     ghost use Rattle.rules.specs.Network.{links_of, link_in_words};
