@@ -5,9 +5,7 @@ ghost use Rattle.std.specs.Prelude.{◌+◌, ◌*◌, ◌/◌, ◌≤◌, ◌≡
 ghost use Rattle.rules.specs.Network.{links_of};
 ghost use Rattle.rules.specs.Findings.{ringed, joined};
 ghost use Rattle.rules.specs.Checks.{base_limits, check_words};
-ghost use Rattle.offers.specs.Placing.{with_places};
 ghost use Rattle.findings.specs.Entries.{findings_reply, final_room};
-ghost use Rattle.findings.specs.Flags.{ases_in};
 
 use network::Network;
 use rules::Refusal;

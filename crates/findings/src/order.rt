@@ -1,6 +1,6 @@
 //! An order in which ASes can be taken away, customers before providers, guessed quickly: whoever has no customer left goes. Nothing is
 //! proved of it: rightness rests on the look at the ranks (ranks.rt) and on the passes (ring.rt), and speed on this guess.
-ghost use Rattle.std.specs.Prelude.{◌+◌, ◌≤◌, ◌<◌, ◌≡◌, IfSome};
+ghost use Rattle.std.specs.Prelude.{◌≤◌, ◌<◌};
 
 use crate::survey::{PROVIDES, Survey, Way};
 use offers::scratch::{self, ASES};

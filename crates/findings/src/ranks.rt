@@ -1,6 +1,6 @@
 //! A look at ranks of ASes, by place: where they fall along every link from provider to customer, and stay above 0, nobody with a rank
 //! above 0 is on a ring.
-ghost use Rattle.std.specs.Prelude.{◌+◌, ◌*◌, ◌/◌, ◌≤◌, ◌<◌, ◌≡◌, true, length};
+ghost use Rattle.std.specs.Prelude.{◌+◌, ◌*◌, ◌/◌, ◌≤◌, ◌≡◌, true, length};
 ghost use Rattle.findings.specs.Ranks.{may_fall, falls_at, Falls, Spared};
 
 use crate::survey::{PROVIDES, Survey, Way};

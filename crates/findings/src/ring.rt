@@ -1,6 +1,6 @@
 //! The customer ring: ASes that have no customer left are peeled off, pass after pass. A ring is there if and only if one is left. Most
 //! often ranks peel off all of them at once, so that one pass more ends it.
-ghost use Rattle.std.specs.Prelude.{◌+◌, ◌<◌, ◌≡◌, length};
+ghost use Rattle.std.specs.Prelude.{◌≡◌, length};
 ghost use Rattle.rules.specs.Network.{links_of};
 ghost use Rattle.rules.specs.Findings.{ringed};
 ghost use Rattle.findings.specs.Peelings.{Peeled, Round, RingsLeft, Bare};

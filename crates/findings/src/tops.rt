@@ -41,7 +41,7 @@ pub struct Tops<'a> {
 }
 
 impl<'a> Tops<'a> {
-    ghost use Rattle.std.specs.Prelude.{◌<◌, ◌≡◌, true, false, length, get_or};
+    ghost use Rattle.std.specs.Prelude.{◌<◌, ◌≡◌, true, false, length};
     ghost use Rattle.rules.specs.Network.{links_of};
     ghost use Rattle.rules.specs.Findings.{joined};
     ghost use Rattle.findings.specs.Flags.{flag_at};
