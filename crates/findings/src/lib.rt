@@ -5,6 +5,7 @@ ghost use Rattle.std.specs.Prelude.{◌+◌, ◌*◌, ◌/◌, ◌≤◌, ◌≡
 ghost use Rattle.rules.specs.Network.{links_of};
 ghost use Rattle.rules.specs.Findings.{ringed, joined};
 ghost use Rattle.rules.specs.Checks.{base_limits, check_words};
+ghost use Rattle.findings.specs.Surveys.{HasFlags};
 ghost use Rattle.findings.specs.Entries.{findings_reply, final_room};
 
 use network::Network;
@@ -35,8 +36,8 @@ fn look(
     chosen: &mut [u32],
     met: &mut [u32],
 ) -> Found
-    requires peeled { (length left.old ≡ survey.network.ases) × (length served.old ≡ survey.network.ases) }
-    requires compared { (length chosen.old ≡ survey.network.ases) × (length met.old ≡ survey.network.ases) }
+    requires peeled { HasFlags survey left.old × HasFlags survey served.old }
+    requires compared { HasFlags survey chosen.old × HasFlags survey met.old }
     ensures ring { result.ring ≡ ringed (links_of survey.entry.network.words.now) }
     ensures joined { result.joined ≡ joined (links_of survey.entry.network.words.now) }
 {

@@ -1,6 +1,7 @@
 //! Peers of one AS, met quickly: over the peer links noted for it alone. Whoever is met so is a peer; that all peers are met is not proved:
 //! where a top is missed, the passes over all links (tops.rt) have the last word.
 ghost use Rattle.std.specs.Prelude.{◌+◌, ◌*◌, ◌≤◌, ◌<◌, ◌≡◌, length};
+ghost use Rattle.findings.specs.Surveys.{HasFlags};
 ghost use Rattle.findings.specs.Joinings.{Hinted};
 
 use crate::survey::{PEERS, Survey, Way};
@@ -24,7 +25,7 @@ pub fn note_peers(survey: &Survey<'_>, index: &mut [u32]) {
 #[tactic(auto, using(crate::proofs::HintLaws::hints))]
 fn meet_over(survey: &Survey<'_>, i: usize, chosen: &[u32], met: &mut [u32])
     requires within { 3 * i + 3 ≤ length survey.now.network.words.now }
-    requires sizes { (length chosen.now ≡ survey.now.network.ases) × (length met.old ≡ survey.now.network.ases) }
+    requires sizes { HasFlags survey.now chosen.now × HasFlags survey.now met.old }
     ensures { Hinted survey.now.network.words.now chosen.now met.old met.new }
 {
     survey.tell_over(PEERS, Way::Down, i, chosen, met);
@@ -41,7 +42,7 @@ pub fn meet_noted_peers(
     met: &mut [u32],
 )
     requires within { p < survey.now.network.ases }
-    requires sizes { (length chosen.now ≡ survey.now.network.ases) × (length met.old ≡ survey.now.network.ases) }
+    requires sizes { HasFlags survey.now chosen.now × HasFlags survey.now met.old }
     ensures { Hinted survey.now.network.words.now chosen.now met.old met.new }
 {
     let mut noted = scratch::at(index, HEADS + p);

@@ -3,6 +3,7 @@
 ghost use Rattle.std.specs.Prelude.{◌≡◌, length};
 ghost use Rattle.rules.specs.Network.{links_of};
 ghost use Rattle.rules.specs.Findings.{ringed};
+ghost use Rattle.findings.specs.Surveys.{HasFlags};
 ghost use Rattle.findings.specs.Peelings.{Peeled, Round, RingsLeft, Bare};
 
 use crate::survey::{PROVIDES, Survey, Way};
@@ -27,7 +28,7 @@ fn peel_unmet(left: &mut [u32], met: &[u32]) -> bool
 // One pass: who has a customer left is met, who is not is taken away. Whether one was.
 #[tactic(auto, using(crate::proofs::RoundLaws::rounds))]
 fn peel(survey: &Survey<'_>, left: &mut [u32], met: &mut [u32]) -> bool
-    requires { (length left.old ≡ survey.now.network.ases) × (length met.old ≡ survey.now.network.ases) }
+    requires { HasFlags survey.now left.old × HasFlags survey.now met.old }
     ensures { Round survey.now.network.words.now left.old left.new result }
 {
     met.fill(0);
@@ -38,7 +39,7 @@ fn peel(survey: &Survey<'_>, left: &mut [u32], met: &mut [u32]) -> bool
 // Passes until one takes none away.
 #[tactic(auto, using(crate::proofs::RoundLaws::strips))]
 fn strip(survey: &Survey<'_>, left: &mut [u32], met: &mut [u32])
-    requires { (length left.old ≡ survey.now.network.ases) × (length met.old ≡ survey.now.network.ases) }
+    requires { HasFlags survey.now left.old × HasFlags survey.now met.old }
     ensures { Bare survey.now.network.words.now left.old left.new }
 {
     while peel(survey, left, met) {}
@@ -47,7 +48,7 @@ fn strip(survey: &Survey<'_>, left: &mut [u32], met: &mut [u32])
 // Who has a rank is taken away at once, if the ranks show that none of them is on a ring.
 #[tactic(auto, using(crate::proofs::RankLaws::ring_spares))]
 fn peel_ranked(survey: &Survey<'_>, left: &mut [u32])
-    requires size { length left.old ≡ survey.now.network.ases }
+    requires size { HasFlags survey.now left.old }
     requires rings { RingsLeft survey.now.network.words.now left.old }
     ensures { RingsLeft survey.now.network.words.now left.new }
 {
@@ -60,7 +61,7 @@ fn peel_ranked(survey: &Survey<'_>, left: &mut [u32])
 /// Whether there is a customer ring, where every AS is left.
 #[tactic(auto, using(crate::proofs::RoundLaws::rings_found))]
 pub fn has_ring(survey: &Survey<'_>, left: &mut [u32], met: &mut [u32]) -> bool
-    requires sizes { (length left.old ≡ survey.now.network.ases) × (length met.old ≡ survey.now.network.ases) }
+    requires sizes { HasFlags survey.now left.old × HasFlags survey.now met.old }
     requires rings { RingsLeft survey.now.network.words.now left.old }
     ensures { result ≡ ringed (links_of survey.now.network.words.now) }
 {

@@ -37,6 +37,7 @@ impl<'a> Survey<'a> {
     ghost use Rattle.std.specs.Prelude.{ℕ, ◌+◌, ◌*◌, ◌/◌, ◌≤◌, ◌<◌, ◌≡◌, length, [], ◌∷◌};
     ghost use Rattle.rules.specs.Network.{links_of, link_in_words};
     ghost use Rattle.findings.specs.Flags.{place};
+    ghost use Rattle.findings.specs.Surveys.{HasFlags};
     ghost use Rattle.findings.specs.Tellings.{teller, hearer, Told};
 
     /// Where who tells over link i stands, and where who hears.
@@ -71,7 +72,7 @@ impl<'a> Survey<'a> {
     #[tactic(auto, using(crate::proofs::TellLaws::told_link))]
     pub fn tell_over(&self, relation: u32, way: Way, i: usize, from: &[u32], to: &mut [u32])
         requires within { 3 * i + 3 ≤ length self.now.network.words.now }
-        requires sizes { (length from.now ≡ self.now.network.ases) × (length to.old ≡ self.now.network.ases) }
+        requires sizes { HasFlags self.now from.now × HasFlags self.now to.old }
         ensures { Told self.now.network.words.now relation way from.now (link_in_words self.now.network.words.now i ∷ []) to.old to.new }
     {
         let (teller, hearer) = self.ends(way, i);
@@ -83,7 +84,7 @@ impl<'a> Survey<'a> {
     /// The pass over all links.
     #[tactic(auto, using(crate::proofs::TellLaws::going))]
     pub fn tell(&self, relation: u32, way: Way, from: &[u32], to: &mut [u32])
-        requires { (length from.now ≡ self.now.network.ases) × (length to.old ≡ self.now.network.ases) }
+        requires { HasFlags self.now from.now × HasFlags self.now to.old }
         ensures { Told self.now.network.words.now relation way from.now (links_of self.now.network.words.now) to.old to.new }
     {
         for i in 0..self.network.links() {

@@ -3,6 +3,7 @@
 ghost use Rattle.std.specs.Prelude.{◌<◌, ◌≡◌, length};
 ghost use Rattle.rules.specs.Network.{links_of};
 ghost use Rattle.rules.specs.Findings.{joined};
+ghost use Rattle.findings.specs.Surveys.{HasFlags};
 ghost use Rattle.findings.specs.Joinings.{Everybody, Served, Chosen};
 
 use crate::marks;
@@ -11,7 +12,7 @@ use crate::survey::{PEERS, PROVIDES, Survey, Way};
 /// Every AS is left, and who has a provider is told so.
 #[tactic(auto, using(crate::proofs::TopLaws::starts))]
 pub fn start(survey: &Survey<'_>, left: &mut [u32], served: &mut [u32])
-    requires { (length left.old ≡ survey.now.network.ases) × (length served.old ≡ survey.now.network.ases) }
+    requires { HasFlags survey.now left.old × HasFlags survey.now served.old }
     ensures left { Everybody survey.now.network.words.now left.new }
     ensures served { Served survey.now.network.words.now served.new }
 {
@@ -45,12 +46,13 @@ impl<'a> Tops<'a> {
     ghost use Rattle.rules.specs.Network.{links_of};
     ghost use Rattle.rules.specs.Findings.{joined};
     ghost use Rattle.findings.specs.Flags.{flag_at};
+    ghost use Rattle.findings.specs.Surveys.{HasFlags};
     ghost use Rattle.findings.specs.Joinings.{Peered, AllMet, meets_at};
 
     // The peers of the chosen AS are met.
     #[tactic(auto, using(crate::proofs::TopLaws::peers_met))]
     fn meet_peers(&self, chosen: &[u32], met: &mut [u32])
-        requires { (length chosen.now ≡ self.now.survey.network.ases) × (length met.old ≡ self.now.survey.network.ases) }
+        requires { HasFlags self.now.survey chosen.now × HasFlags self.now.survey met.old }
         ensures { Peered self.now.survey.network.words.now chosen.now met.old met.new }
     {
         self.survey.tell(PEERS, Way::Down, chosen, met);
@@ -59,7 +61,7 @@ impl<'a> Tops<'a> {
 
     // Whether every top is met.
     fn all_met(&self, met: &[u32]) -> bool
-        requires { length met.now ≡ self.now.survey.network.ases }
+        requires { HasFlags self.now.survey met.now }
         ensures { AllMet self.now.served.now met.now result }
     {
         (0..met.len()).all(|k| (self.served[k] == 1) | (met[k] == 1))
@@ -69,7 +71,7 @@ impl<'a> Tops<'a> {
     #[tactic(auto, using(crate::proofs::MeetLaws::seemingly))]
     fn seems_met(&self, p: usize, chosen: &mut [u32], met: &mut [u32]) -> bool
         requires within { p < self.now.survey.network.ases }
-        requires sizes { (length chosen.old ≡ self.now.survey.network.ases) × (length met.old ≡ self.now.survey.network.ases) }
+        requires sizes { HasFlags self.now.survey chosen.old × HasFlags self.now.survey met.old }
         ensures { result ≡ true → meets_at self.now.survey.network.words.now p ≡ true }
     {
         set_alone(chosen, p);
@@ -82,7 +84,7 @@ impl<'a> Tops<'a> {
     #[tactic(auto, using(crate::proofs::MeetLaws::surely))]
     fn meets_surely(&self, p: usize, chosen: &mut [u32], met: &mut [u32]) -> bool
         requires top { (p < self.now.survey.network.ases) × (flag_at self.now.served.now p ≡ false) }
-        requires sizes { (length chosen.old ≡ self.now.survey.network.ases) × (length met.old ≡ self.now.survey.network.ases) }
+        requires sizes { HasFlags self.now.survey chosen.old × HasFlags self.now.survey met.old }
         ensures { result ≡ meets_at self.now.survey.network.words.now p }
     {
         set_alone(chosen, p);
@@ -95,7 +97,7 @@ impl<'a> Tops<'a> {
     #[tactic(auto, using(crate::proofs::MeetLaws::unserved))]
     fn meets(&self, p: usize, chosen: &mut [u32], met: &mut [u32]) -> bool
         requires within { p < self.now.survey.network.ases }
-        requires sizes { (length chosen.old ≡ self.now.survey.network.ases) × (length met.old ≡ self.now.survey.network.ases) }
+        requires sizes { HasFlags self.now.survey chosen.old × HasFlags self.now.survey met.old }
         ensures { result ≡ meets_at self.now.survey.network.words.now p }
     {
         self.served[p] == 1 || self.seems_met(p, chosen, met) || self.meets_surely(p, chosen, met)
@@ -104,7 +106,7 @@ impl<'a> Tops<'a> {
     // Whether every AS is one.
     #[tactic(auto, using(crate::proofs::MeetLaws::joinings))]
     fn all_meet(&self, chosen: &mut [u32], met: &mut [u32]) -> bool
-        requires { (length chosen.old ≡ self.now.survey.network.ases) × (length met.old ≡ self.now.survey.network.ases) }
+        requires { HasFlags self.now.survey chosen.old × HasFlags self.now.survey met.old }
         ensures { result ≡ joined (links_of self.now.survey.network.words.now) }
     {
         for p in 0..self.survey.network.ases {
@@ -118,8 +120,8 @@ impl<'a> Tops<'a> {
 
 /// Whether the network is joined, where who has a provider is known.
 pub fn is_joined(survey: Survey<'_>, served: &[u32], chosen: &mut [u32], met: &mut [u32]) -> bool
-    requires served { (length served.now ≡ survey.network.ases) × Served survey.network.words.now served.now }
-    requires sizes { (length chosen.old ≡ survey.network.ases) × (length met.old ≡ survey.network.ases) }
+    requires served { HasFlags survey served.now × Served survey.network.words.now served.now }
+    requires sizes { HasFlags survey chosen.old × HasFlags survey met.old }
     ensures { result ≡ joined (links_of survey.entry.network.words.now) }
 {
     let mut index = [0u32; marks::INDEX];
