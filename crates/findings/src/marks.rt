@@ -1,6 +1,6 @@
 //! Peers of one AS, met quickly: over the peer links noted for it alone. Whoever is met so is a peer; that all peers are met is not proved:
 //! where a top is missed, the passes over all links (tops.rt) have the last word.
-ghost use Rattle.std.specs.Prelude.{◌+◌, ◌*◌, ◌≤◌, ◌<◌, ◌≡◌, length};
+ghost use Rattle.std.specs.Prelude.{◌+◌, ◌*◌, ◌≤◌, ◌<◌, length};
 ghost use Rattle.findings.specs.Surveys.{HasFlags};
 ghost use Rattle.findings.specs.Joinings.{Hinted};
 

@@ -31,10 +31,10 @@ pub struct Survey<'a> {
     ghost few_links: { length network.words.now ≤ 4608 },
 }
 
-// Kept: (d) each contract says how long its flags are: with survey and flags in one struct, each method would say in its place that survey,
-// served and both loans stay, four clauses for one.
+// Kept: (d) each contract says that its lists have a flag for each AS: with survey and lists in one struct, each method would say in its
+// place that survey, served and both loans stay, four clauses for one.
 impl<'a> Survey<'a> {
-    ghost use Rattle.std.specs.Prelude.{ℕ, ◌+◌, ◌*◌, ◌/◌, ◌≤◌, ◌<◌, ◌≡◌, length, [], ◌∷◌};
+    ghost use Rattle.std.specs.Prelude.{ℕ, ◌+◌, ◌*◌, ◌≤◌, ◌<◌, ◌≡◌, length, [], ◌∷◌};
     ghost use Rattle.rules.specs.Network.{links_of, link_in_words};
     ghost use Rattle.findings.specs.Flags.{place};
     ghost use Rattle.findings.specs.Surveys.{HasFlags};

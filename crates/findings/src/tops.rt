@@ -42,7 +42,7 @@ pub struct Tops<'a> {
 }
 
 impl<'a> Tops<'a> {
-    ghost use Rattle.std.specs.Prelude.{◌<◌, ◌≡◌, true, false, length};
+    ghost use Rattle.std.specs.Prelude.{◌<◌, ◌≡◌, true, false};
     ghost use Rattle.rules.specs.Network.{links_of};
     ghost use Rattle.rules.specs.Findings.{joined};
     ghost use Rattle.findings.specs.Flags.{flag_at};
