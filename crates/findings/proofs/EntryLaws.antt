@@ -1,90 +1,100 @@
--- The entry: the places in front of the room lay it out, and the refusals in their order are those of the definition.
-use Prim.Native.Nat.{ℕ, ◌*◌, ◌/◌, ◌≤◌, ◌<◌}
-use mathlib.Core.Path.{◌≡◌, refl, ◌∙◌, ap}
-use mathlib.Core.List.{List}
+-- The entry: what an accepted list is, and the replies in the order of the definition.
+use Prim.Native.Nat.{ℕ, ◌+◌, ◌*◌, ◌/◌, ◌≤◌, ◌<◌}
+use mathlib.Core.Path.{◌≡◌, ◌∙◌, ap}
+use mathlib.Core.List.{List, [], ◌++◌}
 use native.Mathlib.Omega.{arith}
-use lib.ListN.{length, get_or, drop, length-append, length-drop, get_or-append}
+use lib.ListN.{length, replicate, drop}
+use Rattle.std.proofs.lemmas.List.{append-nil, drop_all}
 use borrow.Author.Tests.{le-leb, lt-leb}
 use Rattle.std.specs.Prelude.{Err, Ok, Result}
-use Rattle.rules.specs.declared.Limits.{Limits}
 use Rattle.rules.specs.declared.Refusal.{Refusal}
 use Rattle.rules.specs.declared.Refusal.TheVariants.{RoomShort}
 use Rattle.rules.specs.Network.{links_of}
-use Rattle.rules.specs.Checks.{base_limits, check_words}
-use Rattle.rules.specs.Entry.{and_then, verdict_of, cleared}
+use Rattle.rules.specs.Findings.{ringed, joined}
+use Rattle.rules.specs.Checks.{base_limits, check_words, needed_room}
+use Rattle.rules.specs.Entry.{and_then, verdict_of, fault_of_room}
 use Rattle.rules.proofs.AcceptedLinks.{check_words-Accepted}
 use Rattle.network.proofs.PrefixLaws.{count}
 use Rattle.offers.specs.Ways.{places_of}
 use Rattle.offers.specs.Placing.{with_places}
 use Rattle.offers.proofs.PlaceLaws.{places_length}
-use Rattle.findings.specs.declared.Parts.{Parts}
-use Rattle.findings.specs.declared.Found.{Found}
-use Rattle.findings.specs.Entries.{fault_of_findings, reply_findings, findings_reply, final_room}
-use Rattle.findings.specs.Rooms.{parts_of, ases_in, Laid, Counted, room_for, fault_of_short_room, Roomy}
+use Rattle.findings.specs.Entries.{fault_of_findings, findings_reply, final_room}
+use Rattle.findings.specs.Flags.{ases_in}
 use Rattle.findings.specs.Peelings.{RingsLeft}
-use Rattle.findings.specs.Joinings.{Started}
+use Rattle.findings.specs.Joinings.{Everybody}
 use Rattle.findings.proofs.RingLaws.{reaches_as}
 
--- The room ----------------------------------------------------------------------------------------------------------------
-
-pub Laid-placed : {ws : List ℕ} (t : List ℕ) {u : List ℕ} {n : ℕ} {s : Parts} → n ≡ length (ases_in ws) → Roomy ws t
-    → u ≡ with_places (links_of ws) t → s ≡ parts_of (length ws / 3) n → Laid ws u s
-Laid-placed {ws} t {u} {n} a r e p =
-    let places = places_of (ases_in ws) (links_of ws) in
-    let rest = drop (2 * length (links_of ws)) t in
-    let long : length places ≡ 2 * length (links_of ws) = places_length (ases_in ws) (links_of ws) in
-    rw p
-    (record {
-      links = refl;
-      ases = a;
-      left = refl;
-      served = refl;
-      chosen = omega arith;
-      met = omega arith;
-      fits = omega (arith, count ws, long, simp (length-append, length-drop) at (ap length e));
-      ends = λ k l. ap (λ (x : List ℕ). get_or x k 0) e ∙ get_or-append places rest 0 k (omega (arith, count ws, long));
-    })
-
 -- everybody is left, who is on a ring too
-pub rings_start : {ws t : List ℕ} {s : Parts} → Started ws s t → RingsLeft ws s t
-rings_start {ws} h x k e = h.left x (reaches_as (links_of ws) k x x e)
+pub rings_start : (ws t : List ℕ) → Everybody ws t → RingsLeft ws t
+rings_start ws t h x k e = h x (reaches_as (links_of ws) k x x e)
 
-pub Counted-all : {ws list : List ℕ} {n : ℕ} → Counted ws n list → Counted ws (length (ases_in ws)) list
-Counted-all h =
-    record { ases = refl; fits = omega (arith, h.ases, h.fits); small = omega (arith, h.ases, h.small); few = h.few }
+-- the places of the ends, in just as many words
+pub placed_whole : (ws t : List ℕ) → length t ≡ 2 * (length ws / 3) → with_places (links_of ws) t ≡ places_of (ases_in ws) (links_of ws)
+placed_whole ws t e =
+    let none : drop (2 * length (links_of ws)) t ≡ [] = drop_all (2 * length (links_of ws)) t (omega (arith, count ws)) in
+    ap (λ (r : List ℕ). places_of (ases_in ws) (links_of ws) ++ r) none ∙ append-nil (places_of (ases_in ws) (links_of ws))
 
--- the limits of the document are far below what a word holds
-pub base_Counted : (ws : List ℕ) {list : List ℕ} {n : ℕ} → check_words base_limits ws ≡ Ok n → 512 ≤ length list → Counted ws n list
-base_Counted ws {list} {n} e l =
-    let (w, a) = check_words-Accepted base_limits ws n e in
-    record {
-      ases = a.count;
-      fits = omega (arith, a.few_ases);
-      small = omega (arith, a.few_ases);
-      few = omega (arith, a.few_links, count ws);
-    }
+pub placed_long : (ws t : List ℕ) → t ≡ places_of (ases_in ws) (links_of ws) → length t ≡ 2 * (length ws / 3)
+placed_long ws t e = omega (arith, ap length e, count ws, places_length (ases_in ws) (links_of ws))
 
--- Refusals ----------------------------------------------------------------------------------------------------------------
+-- What an accepted list is ------------------------------------------------------------------------------------------------
 
-pub short_refused : (ws : List ℕ) (have : ℕ) → have < room_for ws → fault_of_short_room ws have ≡ Err RoomShort
-short_refused ws have l = cc (lt-leb (room_for ws) have l)
+module _ (ws : List ℕ) (n : ℕ) (e : check_words base_limits ws ≡ Ok n) where
+  pub ases_counted : n ≡ length (ases_in ws)
+  ases_counted = let (w, a) = check_words-Accepted base_limits ws n e in a.count
 
-pub short_passes : (ws : List ℕ) (have : ℕ) → room_for ws ≤ have → fault_of_short_room ws have ≡ Ok tt
-short_passes ws have l = cc (le-leb (room_for ws) have l)
+  pub ases_few : n ≤ 512
+  ases_few = let (w, a) = check_words-Accepted base_limits ws n e in omega (arith, a.few_ases)
 
--- the whole fault, after the check of the links
-fault_is : (limits : Limits) (ws : List ℕ) (have : ℕ) (c : Result ℕ Refusal) → check_words limits ws ≡ c
-    → fault_of_findings limits ws have ≡ and_then (verdict_of c) (fault_of_short_room ws have)
-unfolding fault_of_findings
-fault_is limits ws have c e = ap (λ (d : Result ℕ Refusal). and_then (verdict_of d) (fault_of_short_room ws have)) e
+  pub links_few : length ws ≤ 4608
+  links_few = let (w, a) = check_words-Accepted base_limits ws n e in omega (arith, a.few_links, count ws)
 
-pub entry_accepted : (limits : Limits) (ws t : List ℕ) {u : List ℕ} {n : ℕ} {r : Result Found Refusal} → check_words limits ws ≡ Ok n
-    → (r ≡ reply_findings ws (fault_of_short_room ws (length t))) × (u ≡ cleared (fault_of_short_room ws (length t)) t)
-    → (r ≡ findings_reply limits ws (length t)) × (u ≡ final_room limits ws t)
-unfolding findings_reply final_room
-entry_accepted limits ws t {u} {n} e h = rw (fault_is limits ws (length t) (Ok n) e) h
+  pub links_counted : length (links_of ws) ≡ length ws / 3
+  links_counted = count ws
 
-pub entry_refused : (limits : Limits) (ws t : List ℕ) {r : Refusal} → check_words limits ws ≡ Err r
-    → (Err r ≡ findings_reply limits ws (length t)) × (t ≡ final_room limits ws t)
-unfolding findings_reply final_room
-entry_refused limits ws t {r} e = rw (fault_is limits ws (length t) (Err r) e) (refl, refl)
+  -- Replies ---------------------------------------------------------------------------------------------------------------
+
+  fault_is : (have : ℕ) → fault_of_findings base_limits ws have ≡ fault_of_room (needed_room (length (links_of ws)) (length (ases_in ws))) have
+  unfolding fault_of_findings
+  fault_is have = ap (λ (d : Result ℕ Refusal). and_then (verdict_of d) (fault_of_room (needed_room (length (links_of ws)) (length (ases_in ws))) have)) e
+
+  module _ (t : List ℕ) where
+    pub short_reply : length t < 8 * (length ws / 3) + 8 * n → Err RoomShort ≡ findings_reply base_limits ws (length t)
+    unfolding findings_reply
+    short_reply l =
+        let k : length t < needed_room (length (links_of ws)) (length (ases_in ws)) = omega (arith, count ws, ases_counted) in
+        rw (fault_is (length t), lt-leb _ (length t) k)
+
+    pub short_room : length t < 8 * (length ws / 3) + 8 * n → t ≡ final_room base_limits ws t
+    unfolding final_room
+    short_room l =
+        let k : length t < needed_room (length (links_of ws)) (length (ases_in ws)) = omega (arith, count ws, ases_counted) in
+        rw (fault_is (length t), lt-leb _ (length t) k)
+
+    pub found_reply : 8 * (length ws / 3) + 8 * n ≤ length t
+        → findings_reply base_limits ws (length t) ≡ Ok (record { ring = ringed (links_of ws); joined = joined (links_of ws) })
+    unfolding findings_reply
+    found_reply l =
+        let k : needed_room (length (links_of ws)) (length (ases_in ws)) ≤ length t = omega (arith, count ws, ases_counted) in
+        rw (fault_is (length t), le-leb _ (length t) k)
+
+    pub found_room : 8 * (length ws / 3) + 8 * n ≤ length t → final_room base_limits ws t ≡ replicate (length t) 0
+    unfolding final_room
+    found_room l =
+        let k : needed_room (length (links_of ws)) (length (ases_in ws)) ≤ length t = omega (arith, count ws, ases_counted) in
+        rw (fault_is (length t), le-leb _ (length t) k)
+
+module _ (ws t : List ℕ) (r : Refusal) (e : check_words base_limits ws ≡ Err r) where
+  pub refused_reply : findings_reply base_limits ws (length t) ≡ Err r
+  unfolding findings_reply fault_of_findings
+  refused_reply = rw e
+
+  pub refused_room : final_room base_limits ws t ≡ t
+  unfolding final_room fault_of_findings
+  refused_room = rw e
+
+pub ruleset accepted = (placed_whole, placed_long, ases_counted, ases_few, links_few, links_counted)
+
+pub ruleset replies = (short_reply, short_room, found_reply, found_room, refused_reply, refused_room)
+
+pub ruleset starts = (rings_start)

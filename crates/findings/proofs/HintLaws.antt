@@ -1,23 +1,21 @@
 -- Marks from single links are hints: whoever is met over a link was met before or is a peer of who is chosen, and one hint after the other
 -- says no more.
-use Prim.Native.Nat.{ℕ, ◌<◌}
-use mathlib.Core.Path.{◌≡◌, refl, sym, ◌∙◌, ap, subst}
-use mathlib.Core.Logic.{inl, ⊎_elim}
+use Prim.Native.Nat.{ℕ, ◌+◌, ◌*◌, ◌≤◌}
+use mathlib.Core.Path.{◌≡◌, refl, sym, ◌∙◌, ap}
+use mathlib.Core.Logic.{⊎_elim}
 use mathlib.Core.Bool.{Bool, true, false, ◌||◌, or-false}
 use mathlib.Core.List.{List, [], ◌∷◌}
-use native.Mathlib.Omega.{arith}
+use lib.ListN.{length}
 use Rattle.rules.specs.Lists.{In}
 use Rattle.rules.specs.Network.{links_of, link_in_words}
 use Rattle.rules.proofs.Tests.{or_one}
 use Rattle.rules.proofs.ListLaws.{any_of-true}
 use Rattle.offers.proofs.WayLaws.{link_In}
-use Rattle.findings.specs.declared.Parts.{Parts}
-use Rattle.findings.specs.Rooms.{ases_in, flag, Laid, Within}
+use Rattle.findings.specs.declared.survey.Way.{Way}
+use Rattle.findings.specs.declared.survey.Way.TheVariants.{Down, Up}
+use Rattle.findings.specs.Flags.{ases_in, flag}
 use Rattle.findings.specs.Tellings.{tells, heard, Told}
 use Rattle.findings.specs.Joinings.{Hinted}
-use Rattle.findings.proofs.RoomLaws.{within_same, within_more, laid_kept, flag_kept}
-use Rattle.findings.proofs.TellLaws.{heard_same}
-use Rattle.findings.proofs.TopLaws.{peer_pass}
 
 -- one of three is true
 first : (a b d : Bool) → a ≡ true → (a || b || d) ≡ true
@@ -34,64 +32,41 @@ third true false d e = refl
 third false true d e = refl
 third false false d e = e
 
--- what the parts say before the others are met
-swap : (a b d x y z : Bool) → (a ≡ true → (x || y || z) ≡ true) → b ≡ y → d ≡ z → (a || b || d) ≡ true → (x || y || z) ≡ true
-swap true b d x y z h e f g = h refl
-swap false true d x y z h e f g = second x y z (sym e)
-swap false false d x y z h e f g = third x y z (sym f ∙ g)
+-- what was met before the others
+swap : (a b d x : Bool) → (a ≡ true → (x || b || d) ≡ true) → (a || b || d) ≡ true → (x || b || d) ≡ true
+swap true b d x h g = h refl
+swap false true d x h g = second x true d refl
+swap false false d x h g = third x false d g
 
-pub Hinted-none : (ws : List ℕ) (s : Parts) (t : List ℕ) → Hinted ws s t t
-Hinted-none ws s t = record { within = within_same s.met s.ases t; flags = λ x m e. first _ _ _ e }
+module _ (ws c : List ℕ) where
+  pub Hinted-none : (t : List ℕ) → Hinted ws c t t
+  Hinted-none t = record { flags = λ x m e. first _ _ _ e }
 
-module _ {ws t u : List ℕ} {s : Parts} (h : Laid ws t s) (p : Hinted ws s t u) where
-  pub hinted_Laid : Laid ws u s
-  hinted_Laid = laid_kept h (omega (arith, h.met, h.chosen, h.served)) p.within
+  pub Hinted-more : (t u v : List ℕ) → Hinted ws c t u → Hinted ws c u v → Hinted ws c t v
+  Hinted-more t u v p q = record { flags = λ x m e. swap (flag ws u x) _ _ (flag ws t x) (p.flags x m) (q.flags x m e) }
 
-  chosen_same : (x : ℕ) → In x (ases_in ws) → flag ws u s.chosen x ≡ flag ws t s.chosen x
-  chosen_same x m = flag_kept ws s.chosen x p.within (inl (omega (arith, h.ases, h.met))) m
+  -- a pass over one link, either way
+  module _ (i : ℕ) (h : 3 * i + 3 ≤ length ws) (t u : List ℕ) where
+    heard_link : (w : Way) (x : ℕ) → tells 0 w (flag ws c) x (link_in_words ws i) ≡ true → heard 0 w (flag ws c) x (links_of ws) ≡ true
+    heard_link w x e = any_of-true (tells 0 w (flag ws c) x) (links_of ws) (link_in_words ws i) (link_In ws i h) e
 
-  pub Hinted-more : {v : List ℕ} → Hinted ws s u v → Hinted ws s t v
-  Hinted-more q =
-      record {
-        within = within_more p.within q.within;
-        flags = λ x m e. swap (flag ws u s.met x) _ _ (flag ws t s.met x) _ _ (p.flags x m)
-            (heard_same ws 0 0 (flag ws u s.chosen) (flag ws t s.chosen) x chosen_same)
-            (heard_same ws 0 1 (flag ws u s.chosen) (flag ws t s.chosen) x chosen_same) (q.flags x m e);
-      }
+    met_by : (w : Way) (x : ℕ) → Told ws 0 w c (link_in_words ws i ∷ []) t u → In x (ases_in ws) → flag ws u x ≡ true
+        → (flag ws t x || tells 0 w (flag ws c) x (link_in_words ws i)) ≡ true
+    met_by w x o m e =
+        ap (λ (b : Bool). flag ws t x || b) (sym (or-false (tells 0 w (flag ws c) x (link_in_words ws i)))) ∙ sym (o.flags x m) ∙ e
 
--- a pass over one link, either way
-module _ {ws t : List ℕ} {s : Parts} (h : Laid ws t s) (i : ℕ) (l : i < s.links) where
-  -- who was met, and who hears over all links
-  abbrev was : ℕ → Bool
-  was = flag ws t s.met
+    pub Hinted-down : Told ws 0 Down c (link_in_words ws i ∷ []) t u → Hinted ws c t u
+    Hinted-down o =
+        record {
+          flags = λ x m e. ⊎_elim (first (flag ws t x) _ _) (λ d. second (flag ws t x) _ _ (heard_link Down x d))
+              (or_one (flag ws t x) (tells 0 Down (flag ws c) x (link_in_words ws i)) (met_by Down x o m e));
+        }
 
-  abbrev hears : ℕ → ℕ → Bool
-  hears w x = heard 0 w (flag ws t s.chosen) x (links_of ws)
+    pub Hinted-up : Told ws 0 Up c (link_in_words ws i ∷ []) t u → Hinted ws c t u
+    Hinted-up o =
+        record {
+          flags = λ x m e. ⊎_elim (first (flag ws t x) _ _) (λ d. third (flag ws t x) _ _ (heard_link Up x d))
+              (or_one (flag ws t x) (tells 0 Up (flag ws c) x (link_in_words ws i)) (met_by Up x o m e));
+        }
 
-  heard_link : (w x : ℕ) → tells 0 w (flag ws t s.chosen) x (link_in_words ws i) ≡ true → hears w x ≡ true
-  heard_link w x e =
-      any_of-true (tells 0 w (flag ws t s.chosen) x) (links_of ws) (link_in_words ws i) (link_In ws i (omega (arith, h.links))) e
-
-  Told-Within : {u : List ℕ} {w : ℕ} → Told ws (peer_pass s w) (link_in_words ws i ∷ []) t u → Within s.met s.ases t u
-  Told-Within {u} o = subst (λ (n : ℕ). Within s.met n t u) (sym h.ases) o.within
-
-  Told-one : {u : List ℕ} (w x : ℕ) → Told ws (peer_pass s w) (link_in_words ws i ∷ []) t u → In x (ases_in ws) → flag ws u s.met x ≡ true
-      → (flag ws t s.met x || tells 0 w (flag ws t s.chosen) x (link_in_words ws i)) ≡ true
-  Told-one w x o m e =
-      ap (λ (b : Bool). flag ws t s.met x || b) (sym (or-false (tells 0 w (flag ws t s.chosen) x (link_in_words ws i)))) ∙ sym (o.flags x m) ∙ e
-
-  pub Hinted-there : {u : List ℕ} → Told ws (peer_pass s 0) (link_in_words ws i ∷ []) t u → Hinted ws s t u
-  Hinted-there o =
-      record {
-        within = Told-Within o;
-        flags = λ x m e. ⊎_elim (first (was x) (hears 0 x) (hears 1 x)) (λ d. second (was x) (hears 0 x) (hears 1 x) (heard_link 0 x d))
-            (or_one (flag ws t s.met x) (tells 0 0 (flag ws t s.chosen) x (link_in_words ws i)) (Told-one 0 x o m e));
-      }
-
-  pub Hinted-back : {u : List ℕ} → Told ws (peer_pass s 1) (link_in_words ws i ∷ []) t u → Hinted ws s t u
-  Hinted-back o =
-      record {
-        within = Told-Within o;
-        flags = λ x m e. ⊎_elim (first (was x) (hears 0 x) (hears 1 x)) (λ d. third (was x) (hears 0 x) (hears 1 x) (heard_link 1 x d))
-            (or_one (flag ws t s.met x) (tells 0 1 (flag ws t s.chosen) x (link_in_words ws i)) (Told-one 1 x o m e));
-      }
+pub ruleset hints = (Hinted-none, Hinted-more, Hinted-down, Hinted-up)

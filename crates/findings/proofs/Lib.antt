@@ -1,8 +1,8 @@
 pub mod Chains
 pub mod RingLaws
 pub mod JoinedLaws
+pub mod FlagLaws
 pub mod TellerLaws
-pub mod RoomLaws
 pub mod TellLaws
 pub mod PeelLaws
 pub mod RoundLaws

@@ -1,96 +1,83 @@
 -- Peeling place by place: who is left is who was left and is met, and each one taken away makes them fewer.
 use Prim.Native.Nat.{ℕ, zero, suc, ◌+◌, ◌≤◌, ◌<◌}
 use mathlib.Core.Path.{◌≡◌, refl, sym, ◌∙◌, ap, subst}
-use mathlib.Core.Logic.{inr, ⊎_elim, ◌≢◌}
-use mathlib.Core.Bool.{Bool, true, false, ◌&&◌, ◌||◌, and-false}
+use mathlib.Core.Logic.{⊎_elim, ◌≢◌}
+use mathlib.Core.Bool.{Bool, true, false, ◌&&◌, and-false}
 use mathlib.Core.List.{List}
 use native.Mathlib.Omega.{arith}
 use native.Mathlib.Nat.{lt_trans}
 use borrow.Author.Count.{below_none, below_more}
-use lib.ListN.{length, set}
+use borrow.Author.Tests.{eq-eqb, ne_eqb, eqb-true}
+use lib.ListN.{length, get_or, set, length-set}
 use Rattle.network.proofs.Numbers.{same?}
-use Rattle.findings.specs.declared.Parts.{Parts}
-use Rattle.findings.specs.Rooms.{flag_at, Sized}
-use Rattle.findings.specs.Peelings.{one_if, ones_in, PeeledAt, Fewer, Peeled}
-use Rattle.findings.proofs.RoomLaws.{within_same, within_more, Within-set, Within-flag, set_flag, set_other}
+use Rattle.findings.specs.Flags.{flag_at}
+use Rattle.findings.specs.Peelings.{one_if, ones_in, Fewer, Peeled}
+use Rattle.findings.proofs.FlagLaws.{set_flag, set_other}
 
 -- Counting ----------------------------------------------------------------------------------------------------------------
 
-pub ones_same : (t u : List ℕ) (at n : ℕ) → ((j : ℕ) → j < n → flag_at u (at + j) ≡ flag_at t (at + j)) → ones_in u at n ≡ ones_in t at n
+ones_same : (t u : List ℕ) (n : ℕ) → ((j : ℕ) → j < n → flag_at u j ≡ flag_at t j) → ones_in u n ≡ ones_in t n
 unfolding ones_in
-ones_same t u at zero h = refl
-ones_same t u at (suc n) h =
-    let e : one_if (flag_at u (at + n)) ≡ one_if (flag_at t (at + n)) = ap one_if (h n (omega arith)) in
-    omega (arith, ones_same t u at n (λ j l. h j (omega arith)))
+ones_same t u zero h = refl
+ones_same t u (suc n) h =
+    let e : one_if (flag_at u n) ≡ one_if (flag_at t n) = ap one_if (h n (omega arith)) in
+    omega (arith, ones_same t u n (λ j l. h j (omega arith)))
 
 -- one taken away
-module _ (t : List ℕ) (at k : ℕ) (e : flag_at t (at + k) ≡ true) where
+module _ (t : List ℕ) (k : ℕ) (e : flag_at t k ≡ true) where
   abbrev less : List ℕ
-  less = set t (at + k) 0
+  less = set t k 0
 
-  ones_fall : (n : ℕ) → k < n → at + n ≤ length t → ones_in less at n < ones_in t at n
+  ones_fall : (n : ℕ) → k < n → n ≤ length t → ones_in less n < ones_in t n
   unfolding ones_in
   ones_fall zero l h = absurd (omega arith)
   ones_fall (suc n) l h = ⊎_elim here (λ q. there q (ones_fall n (omega arith) (omega arith))) (same? k n)
     where
-      here : k ≡ n → one_if (flag_at less (at + n)) + ones_in less at n < one_if (flag_at t (at + n)) + ones_in t at n
+      here : k ≡ n → one_if (flag_at less n) + ones_in less n < one_if (flag_at t n) + ones_in t n
       here q =
-          let a : one_if (flag_at less (at + n)) ≡ 0 = rw (← q) (ap one_if (set_flag t (at + k) 0 (omega arith))) in
-          let b : one_if (flag_at t (at + n)) ≡ 1 = rw (← q) (ap one_if e) in
-          omega (arith, ones_same t less at n (λ j m. set_other t (at + k) 0 (at + j) (λ d. omega arith)))
+          let a : one_if (flag_at less n) ≡ 0 = rw (← q) (ap one_if (set_flag t k 0 (omega arith))) in
+          let b : one_if (flag_at t n) ≡ 1 = rw (← q) (ap one_if e) in
+          omega (arith, ones_same t less n (λ j m. set_other t k 0 j (λ d. omega arith)))
 
-      there : k ≢ n → ones_in less at n < ones_in t at n → one_if (flag_at less (at + n)) + ones_in less at n < one_if (flag_at t (at + n)) + ones_in t at n
+      there : k ≢ n → ones_in less n < ones_in t n → one_if (flag_at less n) + ones_in less n < one_if (flag_at t n) + ones_in t n
       there q f =
-          let a : one_if (flag_at less (at + n)) ≡ one_if (flag_at t (at + n)) = ap one_if (set_other t (at + k) 0 (at + n) (λ d. omega arith)) in
+          let a : one_if (flag_at less n) ≡ one_if (flag_at t n) = ap one_if (set_other t k 0 n (λ d. omega arith)) in
           omega arith
 
 -- Place by place ----------------------------------------------------------------------------------------------------------
 
-pub Peeled-none : (s : Parts) (t : List ℕ) → Peeled s 0 t t false
-Peeled-none s t = record {
-  within = within_same s.left s.ases t;
-  done = below_none _;
-  rest = λ k l. refl;
-  fewer = refl;
-}
+pub Peeled-none : (m t : List ℕ) → Peeled 0 m t t false
+Peeled-none m t = record { size = refl; done = below_none _; rest = λ k l. refl; fewer = refl }
 
-module _ {s : Parts} {t : List ℕ} (u : List ℕ) (z : Sized s t) (p : ℕ) (l : p < s.ases) where
-  -- who is met does not change
-  met_same : {r : Bool} → Peeled s p t u r → flag_at u (s.met + p) ≡ flag_at t (s.met + p)
-  met_same h = Within-flag h.within (s.met + p) (inr (omega (arith, z.served, z.met)))
-
-  left_fits : {r : Bool} → Peeled s p t u r → s.left + s.ases ≤ length u
-  left_fits h = omega (arith, h.within.long, z.served, z.met, z.fits)
-
+module _ (p : ℕ) (m t u : List ℕ) (x : Bool) (l : p < length t) (h : Peeled p m t u x) where
   -- u with place p taken away
   abbrev v : List ℕ
-  v = set u (s.left + p) 0
+  v = set u p 0
 
-  fell : (x : Bool) → Fewer s t u x → ones_in v s.left s.ases < ones_in u s.left s.ases → Fewer s t v true
-  fell true f g = lt_trans g f
-  fell false f g = subst (λ (w : List ℕ). ones_in v s.left s.ases < ones_in w s.left s.ases) f g
+  fell : (y : Bool) → Fewer t u y → ones_in v (length u) < ones_in u (length u) → Fewer t v true
+  fell true f g = lt_trans (subst (λ (n : ℕ). ones_in v n < ones_in u n) h.size g) f
+  fell false f g = subst (λ (w : List ℕ). ones_in v (length w) < ones_in w (length w)) f g
 
-  taken : {x : Bool} → Peeled s p t u x → flag_at u (s.left + p) ≡ true → flag_at u (s.met + p) ≡ false → Peeled s (p + 1) t v true
-  taken {x} h e f =
+  pub Peeled-taken : get_or u p 0 ≡ 1 → get_or m p 0 ≢ 1 → Peeled (p + 1) m t v true
+  Peeled-taken e f =
       record {
-        within = within_more h.within (Within-set s.left s.ases (s.left + p) 0 u (omega arith) (omega arith));
+        size = length-set u p 0 ∙ h.size;
         done =
-            below_more (λ (k : ℕ). flag_at v (s.left + k) ≡ (flag_at t (s.left + k) && flag_at t (s.met + k))) p
-            (λ k m. set_other u (s.left + p) 0 (s.left + k) (λ d. omega arith) ∙ h.done k m)
-            (set_flag u (s.left + p) 0 (omega (arith, left_fits h)) ∙ sym (and-false (flag_at t (s.left + p)))
-            ∙ ap (λ (b : Bool). flag_at t (s.left + p) && b) (sym f ∙ met_same h));
-        rest = λ k m. set_other u (s.left + p) 0 (s.left + k) (λ d. omega arith) ∙ h.rest k (omega arith);
-        fewer = fell x h.fewer (ones_fall u s.left p e s.ases l (left_fits h));
+            below_more (λ (k : ℕ). flag_at v k ≡ (flag_at t k && flag_at m k)) p
+            (λ k n. set_other u p 0 k (λ d. omega arith) ∙ h.done k n)
+            (set_flag u p 0 (omega (arith, h.size)) ∙ sym (and-false (flag_at t p)) ∙ ap (λ (b : Bool). flag_at t p && b) (sym (ne_eqb (get_or m p 0) 1 f)));
+        rest = λ k n. set_other u p 0 k (λ d. omega arith) ∙ h.rest k (omega arith);
+        fewer = fell x h.fewer (ones_fall u p (eq-eqb (get_or u p 0) 1 e) (length u) (omega (arith, h.size)) (omega arith));
       }
 
-  kept : {x : Bool} → Peeled s p t u x → (flag_at u (s.left + p) ≡ true → flag_at u (s.met + p) ≡ true) → Peeled s (p + 1) t u x
-  kept h f =
+  kept : (flag_at u p ≡ true → flag_at m p ≡ true) → Peeled (p + 1) m t u x
+  kept f =
       record {
-        within = h.within;
+        size = h.size;
         done =
-            below_more (λ (k : ℕ). flag_at u (s.left + k) ≡ (flag_at t (s.left + k) && flag_at t (s.met + k))) p h.done
-            (both (flag_at u (s.left + p)) (flag_at t (s.left + p)) (flag_at t (s.met + p)) (h.rest p (omega arith)) (λ e. sym (met_same h) ∙ f e));
-        rest = λ k m. h.rest k (omega arith);
+            below_more (λ (k : ℕ). flag_at u k ≡ (flag_at t k && flag_at m k)) p h.done
+            (both (flag_at u p) (flag_at t p) (flag_at m p) (h.rest p (omega arith)) f);
+        rest = λ k n. h.rest k (omega arith);
         fewer = h.fewer;
       }
     where
@@ -98,10 +85,10 @@ module _ {s : Parts} {t : List ℕ} (u : List ℕ) (z : Sized s t) (p : ℕ) (l 
       both a true d e g = e ∙ sym (g e)
       both a false d e g = e
 
--- one place more
-pub Peeled-more : {s : Parts} {t u v : List ℕ} (x y : Bool) → Sized s t → (p : ℕ) → p < s.ases → Peeled s p t u x → PeeledAt s p u v y
-    → Peeled s (p + 1) t v (x || y)
-Peeled-more {u = u} true true z p l h a = rw a.2 (taken u z p l h a.0 a.1)
-Peeled-more {u = u} false true z p l h a = rw a.2 (taken u z p l h a.0 a.1)
-Peeled-more {u = u} true false z p l h a = rw a.1 (kept u z p l h a.0)
-Peeled-more {u = u} false false z p l h a = rw a.1 (kept u z p l h a.0)
+  pub Peeled-gone : get_or u p 0 ≢ 1 → Peeled (p + 1) m t u x
+  Peeled-gone ne = kept (λ e. absurd (ne (eqb-true _ _ e)))
+
+  pub Peeled-met : get_or m p 0 ≡ 1 → Peeled (p + 1) m t u x
+  Peeled-met e = kept (λ _. eq-eqb (get_or m p 0) 1 e)
+
+pub ruleset peelings = (Peeled-none, Peeled-taken, Peeled-gone, Peeled-met)

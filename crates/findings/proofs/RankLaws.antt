@@ -1,12 +1,14 @@
 -- Ranks that fall along every link from provider to customer and stay above 0 show that nobody with a rank is on a ring: along a ring
 -- they would fall below themselves. So to take those away takes none of a ring.
-use Prim.Native.Nat.{ℕ, zero, suc, ◌+◌, ◌*◌, ◌≤◌, ◌<◌}
+use Prim.Native.Nat.{ℕ, zero, suc, ◌+◌, ◌*◌, ◌/◌, ◌≤◌, ◌<◌}
 use mathlib.Core.Path.{◌≡◌, refl, sym, ◌∙◌, ap}
 use mathlib.Core.Logic.{◌⊎◌, inl, inr, ◌≢◌}
-use mathlib.Core.Bool.{Bool, true}
+use mathlib.Core.Bool.{Bool, true, false, not, ◌&&◌, ◌||◌, false≢true}
 use mathlib.Core.List.{List}
 use native.Mathlib.Omega.{arith}
-use lib.Dec.{eqb}
+use borrow.Author.Count.{below_more}
+use lib.Dec.{eqb, ltb}
+use borrow.Author.Tests.{eq-eqb, ne_eqb, ltb-true}
 use lib.ListN.{length, get_or, set}
 use lib.Seq.{get_or-set_other}
 use Rattle.rules.specs.declared.Link.{Link}
@@ -14,18 +16,15 @@ use Rattle.rules.specs.Lists.{In}
 use Rattle.rules.specs.Network.{links_of, link_in_words}
 use Rattle.rules.specs.Findings.{reaches}
 use Rattle.rules.proofs.ListLaws.{in_at}
+use Rattle.rules.proofs.Tests.{and_left, and_right}
 use Rattle.network.proofs.PrefixLaws.{count}
 use Rattle.network.proofs.Numbers.{same?}
-use Rattle.offers.specs.Ways.{index_in, no_link}
+use Rattle.offers.specs.Ways.{no_link}
 use Rattle.offers.proofs.WayLaws.{links_at}
-use Rattle.findings.specs.declared.Parts.{Parts}
-use Rattle.findings.specs.Rooms.{ases_in, Laid}
-use Rattle.findings.specs.Tellings.{teller}
+use Rattle.findings.specs.Flags.{place}
 use Rattle.findings.specs.Peelings.{RingsLeft}
-use Rattle.findings.specs.Ranks.{rank_at, Lower, FallsAt, Falls, Spared}
+use Rattle.findings.specs.Ranks.{rank, may_fall, falls_at, Falls, Spared}
 use Rattle.findings.proofs.Chains.{Below, below_link, reaches_less}
-use Rattle.findings.proofs.TellerLaws.{place_teller}
-use Rattle.findings.proofs.RoomLaws.{within_same, within_more, Within-set, laid_kept}
 
 -- Links by number ---------------------------------------------------------------------------------------------------------
 
@@ -37,78 +36,71 @@ link_number ws l m =
 
 -- Ranks that fall ---------------------------------------------------------------------------------------------------------
 
--- the two answers for link i
-pub falls_link : (ws t rk : List ℕ) (i : ℕ) {r : Bool} {p q x y : ℕ} → p ≡ get_or t (2 * i) 0 → q ≡ get_or t (2 * i + 1) 0 → x ≡ get_or rk p 0 → y ≡ get_or rk q 0
-    → (r ≡ true → Lower x y) → r ≡ true → FallsAt ws t rk i
-falls_link ws t rk i {p = p} {q = q} e f g h k d =
-    let u : get_or rk p 0 ≡ rank_at rk t (2 * i) = ap (λ (j : ℕ). get_or rk j 0) e in
-    let v : get_or rk q 0 ≡ rank_at rk t (2 * i + 1) = ap (λ (j : ℕ). get_or rk j 0) f in
-    λ one l. (let (a, b) = k d (omega (arith, g, u)) in omega (arith, g, h, u, v))
+-- what the test says
+abbrev Lower : ℕ → ℕ → Type 0
+Lower a b = 0 < a → (0 < b) × (b < a)
 
-pub falls_other : (ws t rk : List ℕ) (i : ℕ) {l : Link} → l ≡ link_in_words ws i → l.relation ≢ 1 → FallsAt ws t rk i
-falls_other ws t rk i same ne = λ e. absurd (ne (ap (λ (j : Link). j.relation) same ∙ e))
+may_fall-Lower : (a b : ℕ) → may_fall a b ≡ true → Lower a b
+may_fall-Lower a b e l =
+    let t : (ltb 0 b && ltb b a) ≡ true = other (eqb a 0) (ltb 0 b && ltb b a) (ne_eqb a 0 (λ z. omega arith)) e in
+    (ltb-true 0 b (and_left (ltb 0 b) (ltb b a) t), ltb-true b a (and_right (ltb 0 b) (ltb b a) t))
+  where
+    other : (p q : Bool) → p ≡ false → (p || q) ≡ true → q ≡ true
+    other true q f g = absurd (false≢true (sym f))
+    other false q f g = g
 
-module _ {ws t : List ℕ} (rk : List ℕ) {s : Parts} (h : Laid ws t s) (f : Falls ws t rk s.links) where
-  abbrev rank : ℕ → ℕ
-  rank x = get_or rk (index_in (ases_in ws) x) 0
+falls_at-Lower : (ws rk : List ℕ) (i : ℕ) → (link_in_words ws i).relation ≡ 1 → falls_at ws rk i ≡ true
+    → Lower (rank ws rk (link_in_words ws i).a) (rank ws rk (link_in_words ws i).b)
+falls_at-Lower ws rk i one e =
+    may_fall-Lower _ _ (other (eqb (link_in_words ws i).relation 1) _ (eq-eqb _ 1 one) e)
+  where
+    other : (p q : Bool) → p ≡ true → (not p || q) ≡ true → q ≡ true
+    other true q f g = g
+    other false q f g = absurd (false≢true f)
 
-  -- word 2i + w of the room says where an end of link i stands
-  rank_end : (i w : ℕ) → w ≤ 1 → 3 * i + 3 ≤ length ws → rank_at rk t (2 * i + w) ≡ rank (teller w (link_in_words ws i))
-  rank_end i w o whole =
-      ap (λ (k : ℕ). get_or rk k 0) (h.ends (2 * i + w) (omega (arith, h.links)) ∙ place_teller (ases_in ws) ws i w o whole)
-
-  falls_below : (u w : ℕ) → Below (links_of ws) u w → Lower (rank u) (rank w)
-  unfolding teller
+module _ (ws rk : List ℕ) (f : Falls ws rk (length ws / 3)) where
+  falls_below : (u w : ℕ) → Below (links_of ws) u w → Lower (rank ws rk u) (rank ws rk w)
   falls_below u w b =
       let (l, m, r, p, q) = below_link (links_of ws) u w b in
       let (i, whole, e) = link_number ws l m in
-      let upper : rank_at rk t (2 * i) ≡ rank u = upper_end i whole ∙ ap rank (ap (λ (j : Link). j.a) e ∙ p) in
-      let lower : rank_at rk t (2 * i + 1) ≡ rank w = rank_end i 1 (omega arith) whole ∙ ap rank (ap (λ (j : Link). j.b) e ∙ q) in
-      let fall = f i (omega (arith, h.links)) (ap (λ (j : Link). j.relation) e ∙ r) in
+      let upper : rank ws rk (link_in_words ws i).a ≡ rank ws rk u = ap (rank ws rk) (ap (λ (j : Link). j.a) e ∙ p) in
+      let lower : rank ws rk (link_in_words ws i).b ≡ rank ws rk w = ap (rank ws rk) (ap (λ (j : Link). j.b) e ∙ q) in
+      let fall = falls_at-Lower ws rk i (ap (λ (j : Link). j.relation) e ∙ r) (f i (omega arith)) in
       rw (upper, lower) at fall
-    where
-      upper_end : (i : ℕ) → 3 * i + 3 ≤ length ws → rank_at rk t (2 * i) ≡ rank (link_in_words ws i).a
-      upper_end i whole =
-          let z : 2 * i + 0 ≡ 2 * i = omega arith in
-          ap (rank_at rk t) (sym z) ∙ rank_end i 0 (omega arith) whole
 
-  falls_along : (k u v : ℕ) → reaches (links_of ws) k u v ≡ true → Lower (rank u) (rank v)
+  falls_along : (k u v : ℕ) → reaches (links_of ws) k u v ≡ true → Lower (rank ws rk u) (rank ws rk v)
   unfolding reaches
   falls_along zero u v r = falls_below u v r
   falls_along (suc k) u v r =
       let (w, b, c) = reaches_less (links_of ws) k u v r in
       λ l. (let (a, d) = falls_below u w b l in let (g, j) = falls_along k w v c a in (g, omega arith))
 
-  ring_unranked : (x k : ℕ) → reaches (links_of ws) k x x ≡ true → rank x ≡ 0
-  ring_unranked x k r = at (same? (rank x) 0)
+  ring_unranked : (x k : ℕ) → reaches (links_of ws) k x x ≡ true → rank ws rk x ≡ 0
+  ring_unranked x k r = at (same? (rank ws rk x) 0)
     where
-      at : (rank x ≡ 0) ⊎ (rank x ≢ 0) → rank x ≡ 0
+      at : (rank ws rk x ≡ 0) ⊎ (rank ws rk x ≢ 0) → rank ws rk x ≡ 0
       at (inl e) = e
       at (inr ne) = (let (a, b) = falls_along k x x r (omega arith) in absurd (omega arith))
 
-  pub Spared-rings : {u : List ℕ} → Spared s rk t u → RingsLeft ws s t → RingsLeft ws s u
-  Spared-rings q g x k r =
-      ap (λ (w : ℕ). eqb w 1) (q.unranked (index_in (ases_in ws) x) (ring_unranked x k r)) ∙ g x k r
-
-  pub Spared-Laid : {u : List ℕ} → Spared s rk t u → Laid ws u s
-  Spared-Laid q = laid_kept h (omega arith) q.within
+  pub spared_rings : (t u : List ℕ) → Spared rk t u → RingsLeft ws t → RingsLeft ws u
+  spared_rings t u q g x k r = ap (λ (w : ℕ). eqb w 1) (q.unranked (place ws x) (ring_unranked x k r)) ∙ g x k r
 
 -- Who is spared -----------------------------------------------------------------------------------------------------------
 
-pub Spared-none : (s : Parts) (rk t : List ℕ) → Spared s rk t t
-Spared-none s rk t = record { within = within_same s.left s.ases t; unranked = λ k e. refl }
+module _ (rk t u : List ℕ) where
+  pub Spared-none : Spared rk t t
+  Spared-none = record { unranked = λ k e. refl }
 
-pub Spared-more : {s : Parts} {rk t u v : List ℕ} → Spared s rk t u → Spared s rk u v → Spared s rk t v
-Spared-more p q =
-    record { within = within_more p.within q.within; unranked = λ k e. q.unranked k e ∙ p.unranked k e }
+  pub Spared-put : (p : ℕ) → Spared rk t u → get_or rk p 0 ≢ 0 → Spared rk t (set u p 0)
+  Spared-put p h ne =
+      record { unranked = λ k e. get_or-set_other u p k 0 0 (λ d. ne (ap (λ (j : ℕ). get_or rk j 0) (sym d) ∙ e)) ∙ h.unranked k e }
 
-pub Spared-put : (s : Parts) (rk t : List ℕ) (p : ℕ) → p < s.ases → get_or rk p 0 ≢ 0 → Spared s rk t (set t (s.left + p) 0)
-Spared-put s rk t p l ne =
-    record {
-      within = Within-set s.left s.ases (s.left + p) 0 t (omega arith) (omega arith);
-      unranked = λ k e. get_or-set_other t (s.left + p) (s.left + k) 0 0
-          (λ d. ne (ap (λ (j : ℕ). get_or rk j 0) (other k d) ∙ e));
-    }
-  where
-    other : (k : ℕ) → s.left + k ≡ s.left + p → p ≡ k
-    other k d = omega arith
+-- one link more
+pub falls_next : (ws rk : List ℕ) (i : ℕ) → Falls ws rk i → falls_at ws rk i ≡ true → Falls ws rk (i + 1)
+falls_next ws rk i h e = below_more (λ (k : ℕ). falls_at ws rk k ≡ true) i h e
+
+pub ruleset falling = (falls_next)
+
+pub ruleset spares = (Spared-none, Spared-put)
+
+pub ruleset ring_spares = (spared_rings)

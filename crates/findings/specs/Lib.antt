@@ -1,5 +1,6 @@
 pub mod Entries
-pub mod Rooms
+pub mod Flags
+pub mod Surveys
 pub mod Tellings
 pub mod Peelings
 pub mod Joinings

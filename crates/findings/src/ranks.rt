@@ -1,78 +1,53 @@
-// A look at ranks of ASes, by place: where they fall along every link from provider to customer, and stay above 0, nobody with a rank
-// above 0 is on a ring.
-ghost use Rattle.std.specs.Prelude.{◌+◌, ◌≤◌, ◌<◌, ◌≡◌, true, length};
-ghost use Rattle.findings.specs.Rooms.{Laid};
-ghost use Rattle.findings.specs.Ranks.{Lower, FallsAt, Falls, Spared};
+//! A look at ranks of ASes, by place: where they fall along every link from provider to customer, and stay above 0, nobody with a rank
+//! above 0 is on a ring.
+ghost use Rattle.std.specs.Prelude.{◌+◌, ◌*◌, ◌/◌, ◌≤◌, ◌≡◌, true, length};
+ghost use Rattle.findings.specs.Ranks.{may_fall, falls_at, Falls, Spared};
 
-use super::{PROVIDES, Parts, cells};
-use network::link_at;
-use offers::scratch;
+use crate::survey::{PROVIDES, Survey, Way};
+use offers::scratch::ASES;
 
 // Whether the lower rank may stand below the upper one.
 fn may_fall(upper: u32, lower: u32) -> bool
-    ensures { result ≡ true → Lower upper lower }
+    ensures { result ≡ may_fall upper lower }
 {
-    if upper == 0 {
-        return true;
-    }
-    if lower == 0 {
-        return false;
-    }
-    if upper <= lower {
-        return false;
-    }
-    true
+    upper == 0 || (0 < lower && lower < upper)
 }
 
 // Whether the ranks fall along link i.
-fn falls_at(words: &[u32], room: &[u32], parts: Parts, ranks: &[u32], i: usize) -> bool
-    requires { (i < parts.links) × Laid words.now room.now parts }
-    ensures { result ≡ true → FallsAt words.now room.now ranks.now i }
+#[tactic(auto, unfolding(crate::specs::Tellings::teller, crate::specs::Tellings::hearer))]
+fn falls_at(survey: &Survey<'_>, ranks: &[u32; ASES], i: usize) -> bool
+    requires { 3 * i + 3 ≤ length survey.now.network.words.now }
+    ensures { result ≡ falls_at survey.now.network.words.now ranks.now i }
 {
-    let l = link_at(words, i);
-    if l.relation == PROVIDES {
-        let provider = cells::place_at(room, 2 * i);
-        let customer = cells::place_at(room, 2 * i + 1);
-        return may_fall(scratch::at(ranks, provider), scratch::at(ranks, customer));
+    if network::link_at(survey.network.words, i).relation != PROVIDES {
+        return true;
     }
-    true
+    let (provider, customer) = survey.ends(Way::Down, i);
+    may_fall(ranks[provider], ranks[customer])
 }
 
-// Whether they fall along every link.
-pub fn fall(words: &[u32], room: &[u32], parts: Parts, ranks: &[u32]) -> bool
-    requires { Laid words.now room.now parts }
-    ensures { result ≡ true → Falls words.now room.now ranks.now parts.links }
+/// Whether they fall along every link.
+#[tactic(auto, using(crate::proofs::RankLaws::falling))]
+pub fn fall(survey: &Survey<'_>, ranks: &[u32; ASES]) -> bool
+    ensures { result ≡ true → Falls survey.now.network.words.now ranks.now (length survey.now.network.words.now / 3) }
 {
-    let m = parts.links;
-    let mut i = 0;
-    while i < m {
-        if !falls_at(words, room, parts, ranks, i) {
+    for i in 0..survey.network.links() {
+        if !falls_at(survey, ranks, i) {
             return false;
         }
-        i += 1;
     }
     true
 }
 
-// The AS at place p is taken away if it has a rank.
-fn spare_at(room: &mut [u32], parts: Parts, ranks: &[u32], p: usize)
-    requires { (p < parts.ases) × (parts.left + parts.ases ≤ length room.old) }
-    ensures { Spared parts ranks.now room.old room.new }
+/// All who have a rank are taken away.
+#[tactic(auto, using(crate::proofs::RankLaws::spares))]
+pub fn spare(left: &mut [u32], ranks: &[u32; ASES])
+    requires { length left.old ≤ 512 }
+    ensures { Spared ranks.now left.old left.new }
 {
-    if scratch::at(ranks, p) != 0 {
-        cells::put(room, parts.left + p, 0);
-    }
-}
-
-// All who have a rank are taken away.
-pub fn spare(room: &mut [u32], parts: Parts, ranks: &[u32])
-    requires { parts.left + parts.ases ≤ length room.old }
-    ensures { Spared parts ranks.now room.old room.new }
-{
-    let n = parts.ases;
-    let mut p = 0;
-    while p < n {
-        spare_at(room, parts, ranks, p);
-        p += 1;
+    for p in 0..left.len() {
+        if ranks[p] != 0 {
+            left[p] = 0;
+        }
     }
 }

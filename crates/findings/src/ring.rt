@@ -1,87 +1,71 @@
-// The customer ring: ASes that have no customer left are peeled off, pass after pass. A ring is there if and only if one is left. Most
-// often ranks peel off all of them at once, so that one pass more ends it.
-ghost use Rattle.std.specs.Prelude.{◌+◌, ◌<◌, ◌≡◌};
+//! The customer ring: ASes that have no customer left are peeled off, pass after pass. A ring is there if and only if one is left. Most
+//! often ranks peel off all of them at once, so that one pass more ends it.
+ghost use Rattle.std.specs.Prelude.{◌≡◌, length};
 ghost use Rattle.rules.specs.Network.{links_of};
 ghost use Rattle.rules.specs.Findings.{ringed};
-ghost use Rattle.findings.specs.Rooms.{Sized, Laid};
-ghost use Rattle.findings.specs.Peelings.{PeeledAt, Peeled, Round, RingsLeft, Bare};
+ghost use Rattle.findings.specs.Surveys.{HasFlags};
+ghost use Rattle.findings.specs.Peelings.{Peeled, Round, RingsLeft, Bare};
 
-use super::{PROVIDES, Parts, Pass, UP, cells, order, passes, ranks};
+use crate::survey::{PROVIDES, Survey, Way};
+use crate::{order, ranks};
 
-// Takes the AS at place p away if it is left and has no customer left. Whether it did.
-fn peel_at(room: &mut [u32], parts: Parts, p: usize) -> bool
-    requires { (p < parts.ases) × Sized parts room.old }
-    ensures { PeeledAt parts p room.old room.new result }
+// Takes away who is left and not met. Whether there was one.
+#[tactic(auto, using(crate::proofs::PeelLaws::peelings))]
+fn peel_unmet(left: &mut [u32], met: &[u32]) -> bool
+    requires { length left.old ≡ length met.now }
+    ensures { Peeled (length left.old) met.now left.old left.new result }
 {
-    let left = parts.left + p;
-    if cells::is_set(room, left) {
-        if cells::is_set(room, parts.met + p) {
-            return false;
-        }
-        cells::put(room, left, 0);
-        return true;
-    }
-    false
-}
-
-// Takes all those away. Whether there was one.
-fn peel_all(room: &mut [u32], parts: Parts) -> bool
-    requires { Sized parts room.old }
-    ensures { Peeled parts parts.ases room.old room.new result }
-{
-    let n = parts.ases;
     let mut any = false;
-    let mut p = 0;
-    while p < n {
-        let gone = peel_at(room, parts, p);
-        any = any | gone;
-        p += 1;
+    for p in 0..left.len() {
+        if left[p] == 1 && met[p] != 1 {
+            left[p] = 0;
+            any = true;
+        }
     }
     any
 }
 
 // One pass: who has a customer left is met, who is not is taken away. Whether one was.
-fn peel(words: &[u32], room: &mut [u32], parts: Parts) -> bool
-    requires { Laid words.now room.old parts }
-    ensures { Round words.now parts room.old room.new result }
+#[tactic(auto, using(crate::proofs::RoundLaws::rounds))]
+fn peel(survey: &Survey<'_>, left: &mut [u32], met: &mut [u32]) -> bool
+    requires { HasFlags survey.now left.old × HasFlags survey.now met.old }
+    ensures { Round survey.now.network.words.now left.old left.new result }
 {
-    cells::fill(room, parts.met, parts.ases, 0);
-    let up = Pass {
-        relation: PROVIDES,
-        way: UP,
-        from: parts.left,
-        to: parts.met,
-    };
-    passes::tell(words, room, parts, up);
-    peel_all(room, parts)
+    met.fill(0);
+    survey.tell(PROVIDES, Way::Up, left, met);
+    peel_unmet(left, met)
 }
 
 // Passes until one takes none away.
-fn strip(words: &[u32], room: &mut [u32], parts: Parts)
-    requires { Laid words.now room.old parts }
-    ensures { Bare words.now parts room.old room.new }
+#[tactic(auto, using(crate::proofs::RoundLaws::strips))]
+fn strip(survey: &Survey<'_>, left: &mut [u32], met: &mut [u32])
+    requires { HasFlags survey.now left.old × HasFlags survey.now met.old }
+    ensures { Bare survey.now.network.words.now left.old left.new }
 {
-    while peel(words, room, parts) {}
+    while peel(survey, left, met) {}
 }
 
 // Who has a rank is taken away at once, if the ranks show that none of them is on a ring.
-fn peel_ranked(words: &[u32], room: &mut [u32], parts: Parts)
-    requires { Laid words.now room.old parts × RingsLeft words.now parts room.old }
-    ensures { Laid words.now room.new parts × RingsLeft words.now parts room.new }
+#[tactic(auto, using(crate::proofs::RankLaws::ring_spares))]
+fn peel_ranked(survey: &Survey<'_>, left: &mut [u32])
+    requires size { HasFlags survey.now left.old }
+    requires rings { RingsLeft survey.now.network.words.now left.old }
+    ensures { RingsLeft survey.now.network.words.now left.new }
 {
-    let mut rank = [0u32; 512];
-    order::rank(words, room, parts.ases, &mut rank);
-    if ranks::fall(words, room, parts, &rank) {
-        ranks::spare(room, parts, &rank);
+    let ranks = order::ranks(survey);
+    if ranks::fall(survey, &ranks) {
+        ranks::spare(left, &ranks);
     }
 }
 
-// Whether there is a customer ring, from a room in which every AS is left.
-pub fn has_ring(words: &[u32], room: &mut [u32], parts: Parts) -> bool
-    requires { Laid words.now room.old parts × RingsLeft words.now parts room.old }
-    ensures { result ≡ ringed (links_of words.now) }
+/// Whether there is a customer ring, where every AS is left.
+#[tactic(auto, using(crate::proofs::RoundLaws::rings_found))]
+pub fn has_ring(survey: &Survey<'_>, left: &mut [u32], met: &mut [u32]) -> bool
+    requires sizes { HasFlags survey.now left.old × HasFlags survey.now met.old }
+    requires rings { RingsLeft survey.now.network.words.now left.old }
+    ensures { result ≡ ringed (links_of survey.now.network.words.now) }
 {
-    peel_ranked(words, room, parts);
-    strip(words, room, parts);
-    cells::any_set(room, parts.left, parts.ases)
+    peel_ranked(survey, left);
+    strip(survey, left, met);
+    left.contains(&1)
 }

@@ -1,148 +1,135 @@
-// Whether the network is joined: every two different tops are peers. For each top its peers are marked, and a top that is not marked is
-// looked for: first with the marks from its own links, and where they miss a top, by passes over all links.
-ghost use Rattle.std.specs.Prelude.{◌+◌, ◌*◌, ◌≤◌, ◌<◌, ◌≡◌, length};
-ghost use Rattle.findings.specs.Rooms.{Sized, Laid};
-ghost use Rattle.findings.specs.Joinings.{Started, Chosen, Peered, is_met_at, AllMet, Top, Trying, Meeting, Joining};
+//! Whether the network is joined: every two different tops are peers. For each top its peers are marked, and a top that is not marked is
+//! looked for: first with the marks from its own links, and where they miss a top, by passes over all links.
+ghost use Rattle.std.specs.Prelude.{◌<◌, ◌≡◌, length};
+ghost use Rattle.rules.specs.Network.{links_of};
+ghost use Rattle.rules.specs.Findings.{joined};
+ghost use Rattle.findings.specs.Surveys.{HasFlags};
+ghost use Rattle.findings.specs.Joinings.{Everybody, Served, Chosen};
 
-use super::{DOWN, PEERS, PROVIDES, Parts, Pass, UP, cells, marks, passes};
+use crate::marks;
+use crate::survey::{PEERS, PROVIDES, Survey, Way};
 
-// Every AS is left, and who has a provider is told so.
-pub fn start(words: &[u32], room: &mut [u32], parts: Parts)
-    requires { Laid words.now room.old parts }
-    ensures { Started words.now parts room.new }
+/// Every AS is left, and who has a provider is told so.
+#[tactic(auto, using(crate::proofs::TopLaws::starts))]
+pub fn start(survey: &Survey<'_>, left: &mut [u32], served: &mut [u32])
+    requires { HasFlags survey.now left.old × HasFlags survey.now served.old }
+    ensures left { Everybody survey.now.network.words.now left.new }
+    ensures served { Served survey.now.network.words.now served.new }
 {
-    cells::fill(room, parts.left, parts.ases, 1);
-    cells::fill(room, parts.served, parts.ases, 0);
-    let down = Pass {
-        relation: PROVIDES,
-        way: DOWN,
-        from: parts.left,
-        to: parts.served,
-    };
-    passes::tell(words, room, parts, down);
+    left.fill(1);
+    served.fill(0);
+    survey.tell(PROVIDES, Way::Down, left, served);
 }
 
-// The AS at place p alone is chosen, and met.
-fn choose(room: &mut [u32], parts: Parts, p: usize)
-    requires { (p < parts.ases) × (parts.chosen + parts.ases ≡ parts.met) × (parts.met + parts.ases ≤ length room.old) }
-    ensures { Chosen parts p room.old room.new }
+// The flag at place p alone is set.
+#[tactic(auto, using(crate::proofs::TopLaws::alone))]
+fn set_alone(flags: &mut [u32], p: usize)
+    requires { p < length flags.old }
+    ensures { Chosen p flags.new }
 {
-    cells::fill(room, parts.chosen, 2 * parts.ases, 0);
-    cells::put(room, parts.chosen + p, 1);
-    cells::put(room, parts.met + p, 1);
+    flags.fill(0);
+    flags[p] = 1;
 }
 
-// The peers of the chosen AS are met.
-fn meet_peers(words: &[u32], room: &mut [u32], parts: Parts)
-    requires { Laid words.now room.old parts }
-    ensures { Peered words.now parts room.old room.new }
-{
-    let there = Pass {
-        relation: PEERS,
-        way: DOWN,
-        from: parts.chosen,
-        to: parts.met,
-    };
-    passes::tell(words, room, parts, there);
-    let back = Pass {
-        relation: PEERS,
-        way: UP,
-        from: parts.chosen,
-        to: parts.met,
-    };
-    passes::tell(words, room, parts, back);
+/// The tops of a network: who has a provider, and the index by which peers are met quickly.
+#[derive(Clone, Copy, Debug)]
+pub struct Tops<'a> {
+    pub survey: Survey<'a>,
+    pub served: &'a [u32],
+    pub index: &'a [u32],
+    ghost size: { length served.now ≡ survey.network.ases },
+    ghost told: { Served survey.network.words.now served.now },
 }
 
-// Whether the AS at place k is met or has a provider.
-fn is_met(room: &[u32], parts: Parts, k: usize) -> bool
-    requires { (k < parts.ases) × Sized parts room.now }
-    ensures { result ≡ is_met_at parts room.now k }
-{
-    let served = cells::is_set(room, parts.served + k);
-    let met = cells::is_set(room, parts.met + k);
-    served | met
-}
+impl<'a> Tops<'a> {
+    ghost use Rattle.std.specs.Prelude.{◌<◌, ◌≡◌, true, false};
+    ghost use Rattle.rules.specs.Network.{links_of};
+    ghost use Rattle.rules.specs.Findings.{joined};
+    ghost use Rattle.findings.specs.Flags.{flag_at};
+    ghost use Rattle.findings.specs.Surveys.{HasFlags};
+    ghost use Rattle.findings.specs.Joinings.{Peered, AllMet, meets_at};
 
-// Whether every top is met.
-fn all_met(room: &[u32], parts: Parts) -> bool
-    requires { Sized parts room.now }
-    ensures { AllMet parts room.now result }
-{
-    let n = parts.ases;
-    let mut k = 0;
-    while k < n {
-        if !is_met(room, parts, k) {
-            return false;
+    // The peers of the chosen AS are met.
+    #[tactic(auto, using(crate::proofs::TopLaws::peers_met))]
+    fn meet_peers(&self, chosen: &[u32], met: &mut [u32])
+        requires { HasFlags self.now.survey chosen.now × HasFlags self.now.survey met.old }
+        ensures { Peered self.now.survey.network.words.now chosen.now met.old met.new }
+    {
+        self.survey.tell(PEERS, Way::Down, chosen, met);
+        self.survey.tell(PEERS, Way::Up, chosen, met);
+    }
+
+    // Whether every top is met.
+    fn all_met(&self, met: &[u32]) -> bool
+        requires { HasFlags self.now.survey met.now }
+        ensures { AllMet self.now.served.now met.now result }
+    {
+        (0..met.len()).all(|k| (self.served[k] == 1) | (met[k] == 1))
+    }
+
+    // Whether the top at place p is seen to be a peer of every other top, by its own links.
+    #[tactic(auto, using(crate::proofs::MeetLaws::seemingly))]
+    fn seems_met(&self, p: usize, chosen: &mut [u32], met: &mut [u32]) -> bool
+        requires within { p < self.now.survey.network.ases }
+        requires sizes { HasFlags self.now.survey chosen.old × HasFlags self.now.survey met.old }
+        ensures { result ≡ true → meets_at self.now.survey.network.words.now p ≡ true }
+    {
+        set_alone(chosen, p);
+        set_alone(met, p);
+        marks::meet_noted_peers(&self.survey, self.index, p, chosen, met);
+        self.all_met(met)
+    }
+
+    // Whether the top at place p is a peer of every other top, by all links.
+    #[tactic(auto, using(crate::proofs::MeetLaws::surely))]
+    fn meets_surely(&self, p: usize, chosen: &mut [u32], met: &mut [u32]) -> bool
+        requires top { (p < self.now.survey.network.ases) × (flag_at self.now.served.now p ≡ false) }
+        requires sizes { HasFlags self.now.survey chosen.old × HasFlags self.now.survey met.old }
+        ensures { result ≡ meets_at self.now.survey.network.words.now p }
+    {
+        set_alone(chosen, p);
+        set_alone(met, p);
+        self.meet_peers(chosen, met);
+        self.all_met(met)
+    }
+
+    // Whether the AS at place p is a peer of every other top, or no top.
+    #[tactic(auto, using(crate::proofs::MeetLaws::unserved))]
+    fn meets(&self, p: usize, chosen: &mut [u32], met: &mut [u32]) -> bool
+        requires within { p < self.now.survey.network.ases }
+        requires sizes { HasFlags self.now.survey chosen.old × HasFlags self.now.survey met.old }
+        ensures { result ≡ meets_at self.now.survey.network.words.now p }
+    {
+        self.served[p] == 1 || self.seems_met(p, chosen, met) || self.meets_surely(p, chosen, met)
+    }
+
+    // Whether every AS is one.
+    #[tactic(auto, using(crate::proofs::MeetLaws::joinings))]
+    fn all_meet(&self, chosen: &mut [u32], met: &mut [u32]) -> bool
+        requires { HasFlags self.now.survey chosen.old × HasFlags self.now.survey met.old }
+        ensures { result ≡ joined (links_of self.now.survey.network.words.now) }
+    {
+        for p in 0..self.survey.network.ases {
+            if !self.meets(p, chosen, met) {
+                return false;
+            }
         }
-        k += 1;
+        true
     }
-    true
 }
 
-// Whether the top at place p is seen to be a peer of every other top, by its own links.
-fn seems_met(words: &[u32], room: &mut [u32], parts: Parts, index: &[u32], p: usize) -> bool
-    requires { (p < parts.ases) × Started words.now parts room.old }
-    ensures { Trying words.now parts p room.old room.new result }
+/// Whether the network is joined, where who has a provider is known.
+pub fn is_joined(survey: Survey<'_>, served: &[u32], chosen: &mut [u32], met: &mut [u32]) -> bool
+    requires served { HasFlags survey served.now × Served survey.network.words.now served.now }
+    requires sizes { HasFlags survey chosen.old × HasFlags survey met.old }
+    ensures { result ≡ joined (links_of survey.entry.network.words.now) }
 {
-    choose(room, parts, p);
-    marks::meet_noted_peers(words, room, parts, index, p);
-    all_met(room, parts)
-}
-
-// Whether the top at place p is a peer of every other top, by all links.
-fn meets_surely(words: &[u32], room: &mut [u32], parts: Parts, p: usize) -> bool
-    requires { Top words.now parts p room.old }
-    ensures { Meeting words.now parts p room.old room.new result }
-{
-    choose(room, parts, p);
-    meet_peers(words, room, parts);
-    all_met(room, parts)
-}
-
-// Whether the top at place p is a peer of every other top.
-fn top_meets(words: &[u32], room: &mut [u32], parts: Parts, index: &[u32], p: usize) -> bool
-    requires { Top words.now parts p room.old }
-    ensures { Meeting words.now parts p room.old room.new result }
-{
-    if seems_met(words, room, parts, index, p) {
-        return true;
-    }
-    meets_surely(words, room, parts, p)
-}
-
-// Whether the AS at place p is a peer of every other top, or no top.
-fn meets_tops(words: &[u32], room: &mut [u32], parts: Parts, index: &[u32], p: usize) -> bool
-    requires { (p < parts.ases) × Started words.now parts room.old }
-    ensures { Meeting words.now parts p room.old room.new result }
-{
-    if cells::is_set(room, parts.served + p) {
-        return true;
-    }
-    top_meets(words, room, parts, index, p)
-}
-
-// Whether every AS is one.
-fn all_meet(words: &[u32], room: &mut [u32], parts: Parts, index: &[u32]) -> bool
-    requires { Started words.now parts room.old }
-    ensures { Joining words.now parts room.old room.new result }
-{
-    let n = parts.ases;
-    let mut p = 0;
-    while p < n {
-        if !meets_tops(words, room, parts, index, p) {
-            return false;
-        }
-        p += 1;
-    }
-    true
-}
-
-// Whether the network is joined.
-pub fn is_joined(words: &[u32], room: &mut [u32], parts: Parts) -> bool
-    requires { Started words.now parts room.old }
-    ensures { Joining words.now parts room.old room.new result }
-{
-    let mut index = [0u32; 3584];
-    marks::note_links(words, room, &mut index);
-    all_meet(words, room, parts, &index)
+    let mut index = [0u32; marks::INDEX];
+    marks::note_peers(&survey, &mut index);
+    let tops = Tops {
+        survey,
+        served,
+        index: &index,
+    };
+    tops.all_meet(chosen, met)
 }

@@ -1,11 +1,14 @@
--- No AS on a ring goes, the words outside of the parts stay, and a pass that takes one away leaves fewer.
+-- No AS on a ring goes, and a pass that takes one away leaves fewer.
 use Rattle.std.proofs.Common.{◌≡◌, length}
 use Rattle.findings.specs.Peelings.{ones_in, RingsLeft}
-use Rattle.findings.specs.Rooms.{Laid}
 use Rattle.findings.proofs.ring.strip.Given as goal
 
-abbrev pub invariant-loop-parts : goal.invariant-loop-parts
-invariant-loop-parts l = Laid l.words l.room l.parts × (length l.room ≡ length l.initial.room) × (RingsLeft l.words l.parts l.initial.room → RingsLeft l.words l.parts l.room)
+abbrev pub invariant-loop : goal.invariant-loop
+invariant-loop l = record {
+  left_size : length l.left ≡ length l.initial.left;
+  met_size : length l.met ≡ length l.initial.met;
+  rings : RingsLeft l.survey.network.words.now l.initial.left → RingsLeft l.survey.network.words.now l.left;
+}
 
-abbrev pub decreases-loop-parts : goal.decreases-loop-parts
-decreases-loop-parts l = ones_in l.room l.parts.left l.parts.ases
+abbrev pub decreases-loop : goal.decreases-loop
+decreases-loop l = ones_in l.left (length l.left)
