@@ -13,7 +13,6 @@ use rules::{Limits, Link, Refusal};
 
 mod accepted;
 mod gather;
-mod order;
 mod quick;
 mod slots;
 mod sorted;
@@ -92,8 +91,7 @@ pub fn list_ases(words: &[u32], list: &mut [u32]) -> usize
     requires { length (ases_of (links_of words.now)) ≤ length list.old }
     ensures { Listed (ases_of (links_of words.now)) list.old list.new result }
 {
-    let n = quick::list_quickly(words, list);
-    if n <= gather::ASES {
+    if let Some(n) = quick::list_quickly(words, list) {
         return n;
     }
     sorted::list_plainly(words, list)
@@ -117,11 +115,7 @@ pub fn place_of(list: &[u32], n: usize, x: u32) -> Option<usize>
 pub fn clear(room: &mut [u32])
     ensures { room.new ≡ replicate (length room.old) 0 }
 {
-    let mut i = 0;
-    while i < room.len() {
-        room[i] = 0;
-        i += 1;
-    }
+    room.fill(0);
 }
 
 // The working room that so many links and ASes need, in words.
