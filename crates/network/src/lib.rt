@@ -102,13 +102,7 @@ pub fn place_of(list: &[u32], n: usize, x: u32) -> Option<usize>
     requires { (n ≤ length list.now) × Ascending (take n list.now) }
     ensures { Stands list.now n x result }
 {
-    let k = sorted::first_from(list, n, x);
-    if k < n {
-        if list[k] == x {
-            return Some(k);
-        }
-    }
-    None
+    list[..n].binary_search(&x).ok()
 }
 
 // Every word is 0.
