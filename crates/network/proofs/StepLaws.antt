@@ -1,28 +1,38 @@
 -- One link of the check, and all of them: what is left of the definition at place i is what is left at place i + 1, or a refusal.
 use Rattle.std.specs.Prelude.{Err, Ok, Result}
-use Rattle.std.proofs.Common.{◌≡◌, ℕ, ◌+◌, ◌<◌, ◌≤◌, Bool, true, false, cond, ltb, List, length, sym, ap, ◌∙◌, subst, add-one, arith, le-ltb, lt-ltb}
+use Rattle.std.proofs.lemmas.Bool.Decides.{nat_tests}
+use Rattle.std.proofs.Common.{suc, refl, ◌≡◌, ℕ, ◌+◌, ◌<◌, ◌≤◌, Bool, true, false, cond, ltb, List, length, sym, ap, ◌∙◌, subst, add-one, arith, le-ltb, lt-ltb}
 use Rattle.rules.specs.declared.Link.{Link}
 use Rattle.rules.specs.declared.Limits.{Limits}
 use Rattle.rules.specs.declared.Refusal.{Refusal}
-use Rattle.rules.specs.declared.Refusal.TheVariants.{PairAgain, TooManyAses}
+use Rattle.rules.specs.declared.Refusal.TheVariants.{ZeroAs, NoRelation, EqualEnds, PairAgain, TooManyAses}
 use Rattle.rules.specs.Lists.{any_of}
 use Rattle.rules.specs.Network.{link_in_words, with_ends}
 use Rattle.rules.specs.Checks.{is_same_pair, check_from}
 use Rattle.network.specs.Promises.{count_of}
-use Rattle.network.specs.Prefix.{links_from, seen_at, ases_at, check_at, fault_of_one_link, Sound, Looked}
+use Rattle.network.specs.Prefix.{links_from, seen_at, ases_at, check_at, own_fault}
 use Rattle.network.specs.Tables.{Counted, Open, NotedEnds, Paired, Tables, Sized, Stepping, Stepped, Starting}
 use Rattle.network.specs.declared.steps.Homes.{Homes}
 use Rattle.network.proofs.PrefixLaws.{links_next, links_end}
 use Rattle.network.proofs.AsTableLaws.{no_ases}
 use Rattle.network.proofs.PairTableLaws.{no_links}
 
--- a link that was looked at by itself
-module _ (l : Link) (i : ℕ) {r : Result ℕ Refusal} {n : ℕ} (looked : Looked l i r) (is : r ≡ Ok n) where
-  pub sound : Sound l
-  sound = subst (Looked l i) is looked
+-- a link without a refusal of its own names two ASes
+pub named : (l : Link) (i : ℕ) → own_fault l i ≡ Ok tt → (0 < l.a) × (0 < l.b)
+named l i e = (grind (arith, nat_tests), grind (arith, nat_tests))
 
-  pub named : (0 < l.a) × (0 < l.b)
-  named = (omega (arith, sound.one), omega (arith, sound.other))
+-- the refusals of a link by itself come before the rest
+abbrev followed_by : Result (Unit {0}) Refusal → Result ℕ Refusal → Result ℕ Refusal
+followed_by (Ok u) rest = rest
+followed_by (Err f) rest = Err f
+
+own_first : (p q r : Bool) (i : ℕ) (rest : Result ℕ Refusal)
+    → cond p (Err (ZeroAs i)) (cond q (Err (NoRelation i)) (cond r (Err (EqualEnds i)) rest))
+    ≡ followed_by (cond p (Err (ZeroAs i)) (cond q (Err (NoRelation i)) (cond r (Err (EqualEnds i)) (Ok tt)))) rest
+own_first true q r i rest = refl
+own_first false true r i rest = refl
+own_first false false true i rest = refl
+own_first false false false i rest = refl
 
 -- link i, with the tables before it
 module _ {limits : Limits} {homes : Homes} {ws seats pairs : List ℕ} {i n : ℕ} (g : Stepping limits homes ws i n seats pairs) where
@@ -36,11 +46,12 @@ module _ {limits : Limits} {homes : Homes} {ws seats pairs : List ℕ} {i n : �
       (cond (ltb limits.ases (length (ases_at ws j))) (Err (TooManyAses i))
       (check_from limits (seen_at ws j) (ases_at ws j) j (links_from ws (i + 1))))
 
-  check_here : check_at limits ws i ≡ fault_of_one_link here i (others (i + 1))
-  unfolding check_at check_from fault_of_one_link
+  check_here : check_at limits ws i ≡ followed_by (own_fault here i) (others (i + 1))
+  unfolding check_at check_from
   check_here =
       ap (check_from limits (seen_at ws i) (ases_at ws i) i) (links_next ws i g.link)
-      ∙ ap (λ (j : ℕ). fault_of_one_link here i (others j)) (sym (add-one i))
+      ∙ own_first _ _ _ i (others (suc i))
+      ∙ ap (λ (j : ℕ). followed_by (own_fault here i) (others j)) (sym (add-one i))
 
   pub Open-seats : Open homes.ases seats n 1
   Open-seats = record {
@@ -50,14 +61,12 @@ module _ {limits : Limits} {homes : Homes} {ws seats pairs : List ℕ} {i n : �
   }
 
   module _ {l : Link} (e : l ≡ here) where
-    pub own : {r : Result ℕ Refusal} {f : Refusal} → Looked l i r → r ≡ Err f → Stepped limits homes ws i seats pairs r
-    own {r} {f} looked is =
-        subst (Stepped limits homes ws i seats pairs) (sym is)
-        (check_here ∙ subst (λ (k : Link). Looked k i (Err f)) e (subst (Looked l i) is looked) (others (i + 1)))
+    pub own : {f : Refusal} → own_fault l i ≡ Err f → check_at limits ws i ≡ Err f
+    own {f} is = check_here ∙ ap (λ r. followed_by r (others (i + 1))) (ap (λ (k : Link). own_fault k i) (sym e) ∙ is)
 
-    module _ (s : Sound l) {again : Bool} {u : List ℕ} (p : Paired homes.pairs ws i pairs u again) where
+    module _ (s : own_fault l i ≡ Ok tt) {again : Bool} {u : List ℕ} (p : Paired homes.pairs ws i pairs u again) where
       after_own : check_at limits ws i ≡ others (i + 1)
-      after_own = check_here ∙ (subst Sound e s).passed i (others (i + 1))
+      after_own = check_here ∙ ap (λ r. followed_by r (others (i + 1))) (ap (λ (k : Link). own_fault k i) (sym e) ∙ s)
 
       pub pair_again : again ≡ true → check_at limits ws i ≡ Err (PairAgain i)
       pair_again is = after_own ∙ simp (sym p.seen ∙ is)

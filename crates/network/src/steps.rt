@@ -1,6 +1,6 @@
 // The check link by link, in list order.
 ghost use Rattle.std.specs.Prelude.{◌≡◌};
-ghost use Rattle.network.specs.Prefix.{check_at, Looked};
+ghost use Rattle.network.specs.Prefix.{own_fault, check_at};
 ghost use Rattle.network.specs.Tables.{Stepping, Stepped, Starting};
 
 use super::{WORDS_PER_LINK, link_at, slots};
@@ -14,22 +14,19 @@ pub struct Homes {
 }
 
 // Refusals 2 to 4 of link l at place i, which other links do not bear on.
-fn own_fault(l: Link, i: usize) -> Result<usize, Refusal>
-    ensures { Looked l i result }
+fn own_fault(l: Link, i: usize) -> Result<(), Refusal>
+    ensures { result ≡ own_fault l i }
 {
-    if l.a == 0 {
+    if l.a == 0 || l.b == 0 {
         return Err(Refusal::ZeroAs(i));
     }
-    if l.b == 0 {
-        return Err(Refusal::ZeroAs(i));
-    }
-    if 1 < l.relation {
+    if l.relation > 1 {
         return Err(Refusal::NoRelation(i));
     }
     if l.a == l.b {
         return Err(Refusal::EqualEnds(i));
     }
-    Ok(0)
+    Ok(())
 }
 
 // Link i: its refusal, or the number of ASes that are known after it.
@@ -46,10 +43,7 @@ fn take_link(
     ensures { Stepped limits homes words.now i seats.new pairs.new result }
 {
     let l = link_at(words, i);
-    let own = own_fault(l, i);
-    let Ok(_) = own else {
-        return own;
-    };
+    own_fault(l, i)?;
     if slots::note_pair(words, pairs, homes.pairs, i) {
         return Err(Refusal::PairAgain(i));
     }
@@ -71,16 +65,9 @@ pub fn take_links(
     requires { Starting limits homes words.now seats.old pairs.old }
     ensures { result ≡ check_at limits words.now 0 }
 {
-    let m = words.len() / WORDS_PER_LINK;
-    let mut i = 0;
     let mut n = 0;
-    while i < m {
-        let step = take_link(words, i, n, limits, homes, seats, pairs);
-        let Ok(known) = step else {
-            return step;
-        };
-        n = known;
-        i += 1;
+    for i in 0..words.len() / WORDS_PER_LINK {
+        n = take_link(words, i, n, limits, homes, seats, pairs)?;
     }
     Ok(n)
 }
