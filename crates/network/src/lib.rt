@@ -5,8 +5,8 @@ ghost use Rattle.std.specs.Prelude.{◌≡◌, ◌<◌, ◌≤◌, length, take,
 ghost use Rattle.rules.specs.Network.{links_of, link_in_words, ases_of};
 ghost use Rattle.rules.specs.Checks.{base_limits, check_words, needed_room};
 ghost use Rattle.rules.specs.Ascending.{Ascending};
-ghost use Rattle.network.specs.Promises.{HasLink, with_link, Fresh, Stands, Listed};
-ghost use Rattle.network.specs.Tables.{home_of_as};
+ghost use Rattle.network.specs.Promises.{HasLink, with_link, Stands, Listed};
+ghost use Rattle.network.specs.Tables.{home_of_as, Fresh};
 
 pub use accepted::Network;
 use rules::{Limits, Link, Refusal};
@@ -46,7 +46,7 @@ pub fn put_link(words: &mut [u32], i: usize, l: Link)
 }
 
 // The check of a list of link words within given limits. The two tables are the caller's scratch memory, zero at entry: what stands
-// in them afterwards is not said, only that their lengths stay.
+// in them afterwards is not said.
 pub(crate) fn check_with(
     words: &[u32],
     limits: Limits,
@@ -54,20 +54,21 @@ pub(crate) fn check_with(
     pairs: &mut [u16],
 ) -> Result<usize, Refusal>
     requires { Fresh limits seats.old pairs.old }
-    ensures reply { result ≡ check_words limits words.now }
-    ensures lengths { (length seats.new ≡ length seats.old) × (length pairs.new ≡ length pairs.old) }
+    ensures { result ≡ check_words limits words.now }
 {
-    if words.len() % WORDS_PER_LINK == 0 {
-        if limits.links < words.len() / WORDS_PER_LINK {
-            return Err(Refusal::OverLimit);
-        }
-        let homes = steps::Homes {
-            ases: seats.len() - limits.ases - 1,
-            pairs: pairs.len() - limits.links,
-        };
-        return steps::take_links(words, limits, homes, seats, pairs);
+    if words.len() % WORDS_PER_LINK != 0 {
+        return Err(Refusal::OverLimit);
     }
-    Err(Refusal::OverLimit)
+    if limits.links < words.len() / WORDS_PER_LINK {
+        return Err(Refusal::OverLimit);
+    }
+    let mut tables = steps::Tables {
+        limits,
+        seats,
+        pairs,
+        ases: 0,
+    };
+    tables.take_all(words)
 }
 
 // The check of a list of link words: refusals 1 to 6, or the number of ASes. The tables have 2,048 and 5,632 homes.
