@@ -1,6 +1,6 @@
 -- The check of a list of link words around its loop: the tests on the list's length, and tables of zeros as its start.
 use Rattle.std.specs.Prelude.{Err}
-use Rattle.std.proofs.Common.{◌≡◌, ℕ, ◌+◌, ◌-◌, ◌%◌, ◌<◌, ◌≤◌, ◌≢◌, List, length, replicate, sym, refl, ap, arith, le-ltb, lt-ltb, eq-eqb, ne_eqb}
+use Rattle.std.proofs.Common.{◌≡◌, ℕ, ◌+◌, ◌%◌, ◌<◌, ◌≤◌, ◌≢◌, List, length, replicate, sym, refl, ap, arith, le-ltb, lt-ltb, eq-eqb, ne_eqb}
 use lib.ListN.{length-replicate}
 use Rattle.rules.specs.declared.Limits.{Limits}
 use Rattle.rules.specs.declared.Refusal.TheVariants.{OverLimit}

@@ -103,16 +103,6 @@ module _ {limits : Limits} {ws seats pairs : List ℕ} {i n : ℕ} (z : Sized li
               },
             )
 
--- tables of the same lengths
-pub sized_same : {limits : Limits} {s p t u : List ℕ} → Sized limits s p → length t ≡ length s → length u ≡ length p → Sized limits t u
-sized_same z e f = record {
-  seats_long = omega (arith, z.seats_long);
-  pairs_long = omega (arith, z.pairs_long);
-  seats_small = omega (arith, z.seats_small);
-  pairs_small = omega (arith, z.pairs_small);
-  links_small = z.links_small;
-}
-
 -- the first place and the last
 pub After-none : {limits : Limits} {ws seats pairs : List ℕ} {n : ℕ} → Starting limits ws n seats pairs → After limits ws 0 n seats pairs
 After-none {limits} {ws} {seats} {pairs} {n} g = record {

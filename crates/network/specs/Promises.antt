@@ -4,7 +4,7 @@
 --   with_link ws i l   the words ws with the link l at place i
 --   Listed out l u r   u is l with the list out in its first words, which are r
 --   Stands l n x p     what p says of x among the first n words of l
-use Rattle.std.specs.Prelude.{◌≡◌, ℕ, ◌+◌, ◌*◌, ◌/◌, ◌<◌, ◌≤◌, ◌≢◌, List, ◌++◌, length, drop, replicate, slice_index, slice_set}
+use Rattle.std.specs.Prelude.{◌≡◌, ℕ, ◌+◌, ◌*◌, ◌/◌, ◌<◌, ◌≤◌, ◌≢◌, List, ◌++◌, length, drop, slice_index, slice_set}
 use Rattle.rules.specs.declared.Link.{Link}
 use Rattle.std.specs.Prelude.{Option}
 use Rattle.std.specs.Prelude.{Some, None}

@@ -18,10 +18,10 @@ mod slots;
 mod sorted;
 mod steps;
 
-// Words per link: AS a, AS b, relation.
+/// Words per link: AS a, AS b, relation.
 pub const WORDS_PER_LINK: usize = 3;
 
-// Link i of the words.
+/// Link i of the words.
 pub fn link_at(words: &[u32], i: usize) -> Link
     requires { HasLink words.now i }
     ensures { result ≡ link_in_words words.now i }
@@ -34,7 +34,7 @@ pub fn link_at(words: &[u32], i: usize) -> Link
     }
 }
 
-// Link i gets into the words.
+/// Link i gets into the words.
 pub fn put_link(words: &mut [u32], i: usize, l: Link)
     requires { HasLink words.old i }
     ensures { words.new ≡ with_link words.old i l }
@@ -71,7 +71,7 @@ pub(crate) fn check_with(
     tables.take_all(words)
 }
 
-// The check of a list of link words: refusals 1 to 6, or the number of ASes. The tables have 2,048 and 5,632 homes.
+/// The check of a list of link words: refusals 1 to 6, or the number of ASes. The tables have 2,048 and 5,632 homes.
 pub fn check_links(words: &[u32]) -> Result<usize, Refusal>
     ensures { result ≡ check_words base_limits words.now }
 {
@@ -80,14 +80,14 @@ pub fn check_links(words: &[u32]) -> Result<usize, Refusal>
     check_with(words, Limits::BASE, &mut seats, &mut pairs)
 }
 
-// The slot of an AS among 2,048.
+/// The slot of an AS among 2,048.
 pub fn slot_of(x: u32) -> usize
     ensures { (result ≡ home_of_as 2048 x) × (result < 2048) }
 {
     slots::as_home(x, 2048)
 }
 
-// The ASes of the links, ascending, in the first words of a lent list, and how many they are. The other words stay.
+/// The ASes of the links, ascending, in the first words of a lent list, and how many they are. The other words stay.
 pub fn list_ases(words: &[u32], list: &mut [u32]) -> usize
     requires { length (ases_of (links_of words.now)) ≤ length list.old }
     ensures { Listed (ases_of (links_of words.now)) list.old list.new result }
@@ -98,7 +98,8 @@ pub fn list_ases(words: &[u32], list: &mut [u32]) -> usize
     sorted::list_plainly(words, list)
 }
 
-// Where x stands among the first n words.
+/// Where x stands among the first n words.
+// Kept: the list and its length side by side (a), since this entry and its clause are public.
 pub fn place_of(list: &[u32], n: usize, x: u32) -> Option<usize>
     requires { (n ≤ length list.now) × Ascending (take n list.now) }
     ensures { Stands list.now n x result }
@@ -106,14 +107,14 @@ pub fn place_of(list: &[u32], n: usize, x: u32) -> Option<usize>
     list[..n].binary_search(&x).ok()
 }
 
-// Every word is 0.
+/// Every word is 0.
 pub fn clear(room: &mut [u32])
     ensures { room.new ≡ replicate (length room.old) 0 }
 {
     room.fill(0);
 }
 
-// The working room that so many links and ASes need, in words.
+/// The working room that so many links and ASes need, in words.
 pub fn room_need(links: usize, ases: usize) -> usize
     requires { (links < 4294967296) × (ases < 4294967296) }
     ensures { result ≡ needed_room links ases }

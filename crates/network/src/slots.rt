@@ -21,14 +21,14 @@ pub fn as_home(x: u32, homes: usize) -> usize
     requires { Homed homes }
     ensures { (result ≡ home_of_as homes x) × (result < homes) }
 {
-    spread((x as u64) * 1640531527, homes)
+    spread(u64::from(x) * 1640531527, homes)
 }
 
 // The whole product of two numbers of 32 bits.
 fn product(a: u32, b: u32) -> u64
     ensures { result ≡ a * b }
 {
-    (a as u64) * (b as u64)
+    u64::from(a) * u64::from(b)
 }
 
 // Where the search for a link's pair begins, either way round.

@@ -1,4 +1,4 @@
-use Rattle.std.proofs.Common.{refl, ◌∙◌, arith, rules}
+use Rattle.std.proofs.Common.{refl, ◌∙◌, arith}
 use Rattle.network.proofs.StepLaws.{After-none, check_end}
 use Rattle.network.proofs.steps.Tables.take_all.Goals as goal
 
