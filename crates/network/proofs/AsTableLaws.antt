@@ -2,12 +2,16 @@
 use Rattle.std.proofs.Common.{◌≡◌, ℕ, ◌+◌, ◌<◌, ◌≢◌, List, [], length, set, replicate, sym, refl, ap, ◌∙◌, subst, ⊎_elim, add-one, arith, length-set, eq-eqb, eqb-true}
 use Rattle.rules.specs.Lists.{In}
 use Rattle.rules.specs.Network.{insert}
-use Rattle.network.specs.Slots.{slot, filled, Stopped, Stored}
+use Rattle.network.specs.Slots.{slot, filled, Room, Stopped, Stored}
 use Rattle.network.specs.Tables.{home_of_as, is_as, Counted, Open, Noted}
 use Rattle.rules.proofs.Ascending.{insert_only, insert-Ascending}
 use Rattle.network.proofs.InsertLaws.{insert_there, insert_new}
 use Rattle.network.proofs.MetLaws.{Met-put}
 use Rattle.network.proofs.SlotLaws.{filled-set, filled_none, slot_none, set_here, set_other, put, absent, Stopped-hit, at_home, never}
+
+-- a search from a home ends inside the table
+pub as_Room : {homes n h : ℕ} {t : List ℕ} → Open homes t n 0 → h < homes → Room t h
+as_Room o l = record { room = omega (arith, o.count, o.fits) }
 
 -- a search for x stopped at r
 module _ {homes x n h r : ℕ} {t : List ℕ} (pos : 0 < x) (o : Open homes t n 0) (eh : h ≡ home_of_as homes x) (q : Stopped (is_as x) t h r) where

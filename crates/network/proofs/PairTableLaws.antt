@@ -1,6 +1,9 @@
 -- The table of pairs: a search that stops at a link has found one that joins the same pair, and one that stops at an empty slot has
 -- passed every link that could, since homes do not go by the order of the ends.
-use Rattle.std.proofs.Common.{◌≡◌, ℕ, zero, suc, ◌+◌, ◌-◌, ◌*◌, ◌<◌, Bool, true, false, ◌||◌, eqb, ◌≢◌, List, set, replicate, sym, refl, ap, ◌∙◌, subst, ⊎_elim, lt_irrefl, mul_comm, arith, length-set, eqb-true}
+use Rattle.std.specs.Prelude.{slice_range}
+use Rattle.std.proofs.lemmas.List.{take_rest}
+use Rattle.std.proofs.lemmas.Grind.{get_or_default_zero}
+use Rattle.std.proofs.Common.{length, ◌≤◌, get_or, get_or-drop, ◌≡◌, ℕ, zero, suc, ◌+◌, ◌-◌, ◌*◌, ◌<◌, Bool, true, false, ◌||◌, eqb, ◌≢◌, List, set, replicate, sym, refl, ap, ◌∙◌, subst, ⊎_elim, lt_irrefl, mul_comm, arith, length-set, eqb-true}
 use mathlib.Core.Bool.{or-true}
 use Rattle.rules.specs.declared.Link.{Link}
 use Rattle.rules.specs.Lists.{any_of}
@@ -45,6 +48,12 @@ seen_none f ws (suc i) h =
 -- what stands in a slot is a link
 pub link_slot : (ws : List ℕ) (v j : ℕ) → v ≡ j + 1 → link_in_words ws (v - 1) ≡ link_in_words ws j
 link_slot ws v j e = let q : v - 1 ≡ j = omega arith in ap (link_in_words ws) q
+
+pub place_at : {ws t : List ℕ} {v k : ℕ} → Places ws t → k < length t → v ≡ get_or t k v → 3 * v ≤ length ws
+place_at {ws} {t} {v} {k} p h e = omega (arith, p.places k, e ∙ get_or_default_zero t k v h)
+
+pub places_from : (h : ℕ) {ws t : List ℕ} → Places ws t → Places ws (slice_range t h (length t))
+places_from h {ws} {t} p = rw (take_rest t h) (record { places = λ s. omega (arith, p.places (h + s), get_or-drop h t s 0) })
 
 pub places : {homes i : ℕ} {ws t : List ℕ} → Pairing homes ws i t → Places ws t
 places k = record { places = λ s. omega (arith, k.table.only s, k.link) }

@@ -1,9 +1,14 @@
 -- Searches in a table of slots, for any home and any test. What is stored has no empty slot between its home and itself, so a search
 -- that meets an empty slot has passed all that could be what it looks for.
-use Rattle.std.proofs.Common.{◌≡◌, ℕ, zero, suc, ◌+◌, ◌<◌, ◌≤◌, Bool, true, false, not, eqb, ◌≢◌, List, [], ◌∷◌, length, set, replicate, sym, refl, ap, ◌∙◌, subst, ⊎_elim, le_of_suc-le-suc, not-suc-le-zero, lt_irrefl, arith, get_or-set_other, get_or-set_same, eq-eqb, ne_eqb}
-use borrow.Author.Tests.{not-true, not-false, eqb-false}
+use Rattle.std.specs.Prelude.{Some, IsSome, position, slice_range}
+use Rattle.std.proofs.lemmas.List.{take_rest}
+use Rattle.std.proofs.lemmas.List.Quantifiers.{position-Some}
+use Rattle.std.specs.List.{position_or_len}
+use Rattle.std.proofs.lemmas.List.Sums.{fails_before_first}
+use Rattle.std.proofs.Common.{◌-◌, rules, lt-ltb, get_or, get_or-drop, drop, length-drop, ◌≡◌, ℕ, zero, suc, ◌+◌, ◌<◌, ◌≤◌, Bool, true, false, eqb, ◌≢◌, List, [], ◌∷◌, length, set, replicate, sym, refl, ap, ◌∙◌, subst, ⊎_elim, le_of_suc-le-suc, not-suc-le-zero, arith, get_or-set_other, get_or-set_same, eq-eqb, ne_eqb}
+use borrow.Author.Tests.{eqb-false}
 use Rattle.rules.proofs.Tests.{clash, or_no}
-use Rattle.network.specs.Slots.{slot, filled, stops_at, Run, Reached, Seated, Passed, Stopped, Room}
+use Rattle.network.specs.Slots.{slot, filled, stops, Run, Reached, Seated, Passed, Stopped, Room}
 use Rattle.network.proofs.Numbers.{below?, same?}
 
 -- how many slots are filled
@@ -48,41 +53,38 @@ run_short (x ∷ t) (suc h) (suc s) b f = omega (
   run_short t h s (omega arith) (λ u g l. f (suc u) (omega arith) (omega arith)),
 )
 
--- a search
-pub pass_none : (hit : ℕ → Bool) (t : List ℕ) (h : ℕ) → Passed hit t h h
-pass_none hit t h = record {
-  start = omega arith;
-  run = λ u g l. absurd (lt_irrefl u (omega arith));
-  missed = λ u g l. absurd (lt_irrefl u (omega arith));
-}
+-- a search from h on by the library's `position`: where it ends, and that it ends inside the table
+module _ (hit : ℕ → Bool) (t : List ℕ) (h : ℕ) (within : h ≤ length t) where
+  at : (u : ℕ) → h ≤ u → get_or (drop h t) (u - h) 0 ≡ slot t u
+  at u g = get_or-drop h t (u - h) 0 ∙ ap (slot t) (omega arith)
 
-pass_more : {hit : ℕ → Bool} {t : List ℕ} {h s : ℕ} → Passed hit t h s → stops_at hit t s ≡ false → Passed hit t h (s + 1)
-pass_more {hit} {t} {h} {s} p e =
-    let n : (eqb (slot t s) 0 ≡ false) × (hit (slot t s) ≡ false) = or_no _ _ e in
-    record {
-      start = omega (arith, p.start);
-      run = λ u g l z. ⊎_elim
-          (λ lt. p.run u g lt z)
-          (λ ge. let q : u ≡ s = omega arith in eqb-false _ _ n.0 (sym (ap (slot t) q) ∙ z))
-          (below? u s);
-      missed = λ u g l. ⊎_elim
-          (λ lt. p.missed u g lt)
-          (λ ge. let q : u ≡ s = omega arith in ap (λ (k : ℕ). hit (slot t k)) q ∙ n.1)
-          (below? u s);
-    }
+  passes_none : (u : ℕ) → h ≤ u → stops hit (get_or (drop h t) (u - h) 0) ≡ false → (slot t u ≢ 0) × (hit (slot t u) ≡ false)
+  passes_none u g e =
+      let n : (eqb (slot t u) 0 ≡ false) × (hit (slot t u) ≡ false) = or_no _ _ (sym (ap (stops hit) (at u g)) ∙ e) in
+      (eqb-false _ _ n.0, n.1)
 
--- a test that did not stop the search, and one that did
-pub goes_on : {hit : ℕ → Bool} {t : List ℕ} {h s : ℕ} (r : Bool) → Passed hit t h s → r ≡ stops_at hit t s → not r ≡ true
-    → Passed hit t h (s + 1)
-goes_on r p e n = pass_more p (sym e ∙ not-true r n)
+  pub stopped : (k : ℕ) → position (stops hit) (slice_range t h (length t)) ≡ Some k → Stopped hit t h (h + k)
+  stopped k e =
+      let p = position-Some (stops hit) (drop h t) k 0 (rw (take_rest t h) at e) in
+      let low : k < length t - h = rw length-drop at p.0 in
+      record {
+        passed = record {
+          start = omega arith;
+          run = λ u g l. (passes_none u g (p.2 (u - h) (omega arith))).0;
+          missed = λ u g l. (passes_none u g (p.2 (u - h) (omega arith))).1;
+        };
+        within = omega arith;
+        stop = sym (ap (stops hit) (get_or-drop h t k 0)) ∙ p.1;
+      }
 
-pub stops : {hit : ℕ → Bool} {t : List ℕ} {h s : ℕ} (r : Bool) → Passed hit t h s → s < length t → r ≡ stops_at hit t s
-    → not r ≡ false → Stopped hit t h s
-stops r p l e n = record { passed = p; within = l; stop = sym e ∙ not-false r n }
+  stops_some : Room t h → IsSome (position (stops hit) (drop h t))
+  stops_some room = ⊎_elim
+      (λ l. let e = lt-ltb _ _ l in rw e (search rules))
+      (λ g. absurd (omega (arith, run_short t h (length t) (omega arith) (λ u a l. (passes_none u a (fails_before_first (stops hit) (drop h t) (u - h) 0 (omega (arith, length-drop h t)))).0), room.room)))
+      (below? (position_or_len (stops hit) (drop h t)) (length (drop h t)))
 
--- a search never leaves the table
-pub inside : {hit : ℕ → Bool} {t : List ℕ} {h s : ℕ} → Room t h → Passed hit t h s → s ≤ length t → s < length t
-inside {hit} {t} {h} {s} m p b = omega (arith, run_short t h s b p.run, m.room)
+  pub stops_inside : Room t h → IsSome (position (stops hit) (slice_range t h (length t)))
+  stops_inside room = rw (take_rest t h) (stops_some room)
 
 -- a slot that was set
 pub set_here : (t : List ℕ) (r v s : ℕ) → r < length t → s ≡ r → slot (set t r v) s ≡ v

@@ -4,7 +4,7 @@
 --   filled t           how many slots are not empty
 --   spread_of homes m   a home below homes, from a number m
 --   Homed homes        there are homes, and not too many to be spread over
---   stops_at hit t s   a search for what passes the test hit ends at slot s: it is empty or passes
+--   stops hit v        a search for what passes the test hit ends at slot value v: the slot is empty or v passes
 --   Run t h s          the slots from h up to s are not empty
 --   Seated home t      what is stored stands at or after its home, with no empty slot in between
 --   Passed hit t h s   a search from h came to s: no slot before is empty or passes the test hit
@@ -20,8 +20,8 @@ abbrev pub filled : List ℕ → ℕ
 filled [] = 0
 filled (x ∷ t) = cond (x == 0) (filled t) (suc (filled t))
 
-abbrev pub stops_at : (ℕ → Bool) → List ℕ → ℕ → Bool
-stops_at hit t s = slot t s == 0 || hit (slot t s)
+abbrev pub stops : (ℕ → Bool) → ℕ → Bool
+stops hit v = v == 0 || hit v
 
 unfoldable pub spread_of : ℕ → ℕ → ℕ
 spread_of homes m = m % 4294967296 * homes / 4294967296
@@ -48,7 +48,7 @@ pub record Passed (hit : ℕ → Bool) (t : List ℕ) (h s : ℕ) : Type 0 where
 pub record Stopped (hit : ℕ → Bool) (t : List ℕ) (h s : ℕ) : Type 0 where
   pub passed : Passed hit t h s
   pub within : s < length t
-  pub stop : stops_at hit t s ≡ true
+  pub stop : stops hit (slot t s) ≡ true
 
 pub record Stored (t : List ℕ) (v : ℕ) : Type 0 where
   pub place : ℕ

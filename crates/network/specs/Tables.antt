@@ -4,7 +4,8 @@
 --   home_of_pair homes l  where the search for the pair of link l begins; is_pair ws l v   slot value v is a link that joins it
 --   Counted homes known t n   table t holds the n ASes known
 --   Pairs homes ws i t   table t holds the links before place i, link j as j + 1
---   Tables limits homes ws i n seats pairs   both tables, after the links before place i
+--   After limits ws i n seats pairs   both tables, after the links before place i
+--   Fresh limits seats pairs   two tables of zeros, long enough to check links within the limits
 --   Open, Noted, NotedEnds, Places, Pairing, Paired, Sized, Stepping, Stepped, Starting   what the steps ask and say
 use Rattle.rules.specs.declared.Refusal.{Refusal}
 use Rattle.std.specs.Prelude.{◌≡◌, ℕ, ◌+◌, ◌-◌, ◌*◌, ◌/◌, ◌%◌, ◌<◌, ◌≤◌, Bool, false, ◌≢◌, List, length, replicate, ◌==◌, Err, Ok, Result}
@@ -17,7 +18,6 @@ use Rattle.network.specs.Prefix.{seen_at, ases_at, check_at}
 use Rattle.network.specs.Slots.{slot, filled, spread_of, Homed, Seated, Stored}
 use Rattle.rules.specs.Ascending.{Ascending}
 use Rattle.network.specs.Promises.{per_link, count_of, HasLink}
-use Rattle.network.specs.declared.steps.Homes.{Homes}
 
 unfoldable pub home_of_as : ℕ → ℕ → ℕ
 home_of_as homes x = spread_of homes (x * 1640531527)
@@ -86,36 +86,46 @@ pub record Paired (homes : ℕ) (ws : List ℕ) (i : ℕ) (t u : List ℕ) (agai
   pub seen : again ≡ any_of (is_same_pair (link_in_words ws i)) (seen_at ws i)
   pub new : again ≡ false → Pairs homes ws (i + 1) u
 
+-- how many slots of the two tables are homes: beyond them, a slot for each AS and one more, and a slot for each link
+abbrev pub as_homes : Limits → List ℕ → ℕ
+as_homes limits seats = length seats - limits.ases - 1
+
+abbrev pub pair_homes : Limits → List ℕ → ℕ
+pair_homes limits pairs = length pairs - limits.links
+
+-- there is at least one home in each table, and a link's number and one fit 16 bits
+pub record Sized (limits : Limits) (seats pairs : List ℕ) : Type 0 where
+  pub seats_long : limits.ases + 1 < length seats
+  pub pairs_long : limits.links < length pairs
+  pub seats_small : length seats < 4294967296
+  pub pairs_small : length pairs < 4294967296
+  pub links_small : limits.links < 65536
+
 -- the tables after the links before place i, which name n ASes
-pub record Tables (limits : Limits) (homes : Homes) (ws : List ℕ) (i n : ℕ) (seats pairs : List ℕ) : Type 0 where
-  pub known : Counted homes.ases (ases_at ws i) seats n
-  pub links : Pairs homes.pairs ws i pairs
+pub record After (limits : Limits) (ws : List ℕ) (i n : ℕ) (seats pairs : List ℕ) : Type 0 where
+  pub known : Counted (as_homes limits seats) (ases_at ws i) seats n
+  pub links : Pairs (pair_homes limits pairs) ws i pairs
   pub few : n ≤ limits.ases
 
--- the tables' lengths: beyond the homes, a slot for each AS and one more, and a slot for each link
-pub record Sized (limits : Limits) (homes : Homes) (seats pairs : List ℕ) : Type 0 where
-  pub as_homes : Homed homes.ases
-  pub pair_homes : Homed homes.pairs
-  pub seats_fit : homes.ases + limits.ases + 1 ≤ length seats
-  pub pairs_fit : homes.pairs + limits.links ≤ length pairs
-  pub small : limits.links < 65536
-
 -- link i, and the tables before it
-pub record Stepping (limits : Limits) (homes : Homes) (ws : List ℕ) (i n : ℕ) (seats pairs : List ℕ) : Type 0 where
-  pub sized : Sized limits homes seats pairs
-  pub tables : Tables limits homes ws i n seats pairs
+pub record Stepping (limits : Limits) (ws : List ℕ) (i n : ℕ) (seats pairs : List ℕ) : Type 0 where
+  pub after : After limits ws i n seats pairs
   pub link : HasLink ws i
   pub few : i < limits.links
 
 -- the reply to link i: a refusal is that to the whole rest; else the rest goes on with the n ASes known now
-abbrev pub Stepped : Limits → Homes → List ℕ → ℕ → List ℕ → List ℕ → Result ℕ Refusal → Type 0
-Stepped limits homes ws i seats pairs (Err f) = check_at limits ws i ≡ Err f
-Stepped limits homes ws i seats pairs (Ok n) =
-    (check_at limits ws i ≡ check_at limits ws (i + 1)) × Tables limits homes ws (i + 1) n seats pairs
+abbrev pub Stepped : Limits → List ℕ → ℕ → ℕ → List ℕ → List ℕ → Result (Unit {0}) Refusal → Type 0
+Stepped limits ws i n seats pairs (Err f) = check_at limits ws i ≡ Err f
+Stepped limits ws i n seats pairs (Ok u) = (check_at limits ws i ≡ check_at limits ws (i + 1)) × After limits ws (i + 1) n seats pairs
 
--- whole links, not too many, and both tables zero
-pub record Starting (limits : Limits) (homes : Homes) (ws seats pairs : List ℕ) : Type 0 where
-  pub sized : Sized limits homes seats pairs
+-- both tables zero
+pub record Fresh (limits : Limits) (seats pairs : List ℕ) : Type 0 where
+  pub sized : Sized limits seats pairs
   pub seats_zero : seats ≡ replicate (length seats) 0
   pub pairs_zero : pairs ≡ replicate (length pairs) 0
+
+-- not too many links, and no ASes yet
+pub record Starting (limits : Limits) (ws : List ℕ) (n : ℕ) (seats pairs : List ℕ) : Type 0 where
+  pub fresh : Fresh limits seats pairs
   pub few : count_of ws ≤ limits.links
+  pub none : n ≡ 0

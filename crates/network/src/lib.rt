@@ -5,24 +5,23 @@ ghost use Rattle.std.specs.Prelude.{◌≡◌, ◌<◌, ◌≤◌, length, take,
 ghost use Rattle.rules.specs.Network.{links_of, link_in_words, ases_of};
 ghost use Rattle.rules.specs.Checks.{base_limits, check_words, needed_room};
 ghost use Rattle.rules.specs.Ascending.{Ascending};
-ghost use Rattle.network.specs.Promises.{HasLink, with_link, Fresh, Stands, Listed};
-ghost use Rattle.network.specs.Tables.{home_of_as};
+ghost use Rattle.network.specs.Promises.{HasLink, with_link, Stands, Listed};
+ghost use Rattle.network.specs.Tables.{home_of_as, Fresh};
 
 pub use accepted::Network;
 use rules::{Limits, Link, Refusal};
 
 mod accepted;
 mod gather;
-mod order;
 mod quick;
 mod slots;
 mod sorted;
 mod steps;
 
-// Words per link: AS a, AS b, relation.
+/// Words per link: AS a, AS b, relation.
 pub const WORDS_PER_LINK: usize = 3;
 
-// Link i of the words.
+/// Link i of the words.
 pub fn link_at(words: &[u32], i: usize) -> Link
     requires { HasLink words.now i }
     ensures { result ≡ link_in_words words.now i }
@@ -35,7 +34,7 @@ pub fn link_at(words: &[u32], i: usize) -> Link
     }
 }
 
-// Link i gets into the words.
+/// Link i gets into the words.
 pub fn put_link(words: &mut [u32], i: usize, l: Link)
     requires { HasLink words.old i }
     ensures { words.new ≡ with_link words.old i l }
@@ -47,7 +46,7 @@ pub fn put_link(words: &mut [u32], i: usize, l: Link)
 }
 
 // The check of a list of link words within given limits. The two tables are the caller's scratch memory, zero at entry: what stands
-// in them afterwards is not said, only that their lengths stay.
+// in them afterwards is not said.
 pub(crate) fn check_with(
     words: &[u32],
     limits: Limits,
@@ -55,23 +54,24 @@ pub(crate) fn check_with(
     pairs: &mut [u16],
 ) -> Result<usize, Refusal>
     requires { Fresh limits seats.old pairs.old }
-    ensures reply { result ≡ check_words limits words.now }
-    ensures lengths { (length seats.new ≡ length seats.old) × (length pairs.new ≡ length pairs.old) }
+    ensures { result ≡ check_words limits words.now }
 {
-    if words.len() % WORDS_PER_LINK == 0 {
-        if limits.links < words.len() / WORDS_PER_LINK {
-            return Err(Refusal::OverLimit);
-        }
-        let homes = steps::Homes {
-            ases: seats.len() - limits.ases - 1,
-            pairs: pairs.len() - limits.links,
-        };
-        return steps::take_links(words, limits, homes, seats, pairs);
+    if words.len() % WORDS_PER_LINK != 0 {
+        return Err(Refusal::OverLimit);
     }
-    Err(Refusal::OverLimit)
+    if limits.links < words.len() / WORDS_PER_LINK {
+        return Err(Refusal::OverLimit);
+    }
+    let mut tables = steps::Tables {
+        limits,
+        seats,
+        pairs,
+        ases: 0,
+    };
+    tables.take_all(words)
 }
 
-// The check of a list of link words: refusals 1 to 6, or the number of ASes. The tables have 2,048 and 5,632 homes.
+/// The check of a list of link words: refusals 1 to 6, or the number of ASes. The tables have 2,048 and 5,632 homes.
 pub fn check_links(words: &[u32]) -> Result<usize, Refusal>
     ensures { result ≡ check_words base_limits words.now }
 {
@@ -80,51 +80,41 @@ pub fn check_links(words: &[u32]) -> Result<usize, Refusal>
     check_with(words, Limits::BASE, &mut seats, &mut pairs)
 }
 
-// The slot of an AS among 2,048.
+/// The slot of an AS among 2,048.
 pub fn slot_of(x: u32) -> usize
     ensures { (result ≡ home_of_as 2048 x) × (result < 2048) }
 {
     slots::as_home(x, 2048)
 }
 
-// The ASes of the links, ascending, in the first words of a lent list, and how many they are. The other words stay.
+/// The ASes of the links, ascending, in the first words of a lent list, and how many they are. The other words stay.
 pub fn list_ases(words: &[u32], list: &mut [u32]) -> usize
     requires { length (ases_of (links_of words.now)) ≤ length list.old }
     ensures { Listed (ases_of (links_of words.now)) list.old list.new result }
 {
-    let n = quick::list_quickly(words, list);
-    if n <= gather::ASES {
+    if let Some(n) = quick::list_quickly(words, list) {
         return n;
     }
     sorted::list_plainly(words, list)
 }
 
-// Where x stands among the first n words.
+/// Where x stands among the first n words.
+// Kept: the list and its length side by side (a), since this entry and its clause are public.
 pub fn place_of(list: &[u32], n: usize, x: u32) -> Option<usize>
     requires { (n ≤ length list.now) × Ascending (take n list.now) }
     ensures { Stands list.now n x result }
 {
-    let k = sorted::first_from(list, n, x);
-    if k < n {
-        if list[k] == x {
-            return Some(k);
-        }
-    }
-    None
+    list[..n].binary_search(&x).ok()
 }
 
-// Every word is 0.
+/// Every word is 0.
 pub fn clear(room: &mut [u32])
     ensures { room.new ≡ replicate (length room.old) 0 }
 {
-    let mut i = 0;
-    while i < room.len() {
-        room[i] = 0;
-        i += 1;
-    }
+    room.fill(0);
 }
 
-// The working room that so many links and ASes need, in words.
+/// The working room that so many links and ASes need, in words.
 pub fn room_need(links: usize, ases: usize) -> usize
     requires { (links < 4294967296) × (ases < 4294967296) }
     ensures { result ≡ needed_room links ases }

@@ -1,8 +1,8 @@
 // The two tables of the check: ASes, and links by the pair that they join. A search begins at a home and goes up to what it looks
 // for or to an empty slot, 0; the slots past the homes spare it from wrapping round.
-ghost use Rattle.std.specs.Prelude.{◌≡◌, ◌*◌, ◌<◌, length};
+ghost use Rattle.std.specs.Prelude.{◌≡◌, ◌*◌, ◌<◌, ◌≤◌, ◌==◌, ◌||◌, length, drop, position};
 ghost use Rattle.rules.specs.Checks.{is_same_pair};
-ghost use Rattle.network.specs.Slots.{spread_of, stops_at, Homed, Stopped, Room};
+ghost use Rattle.network.specs.Slots.{spread_of, stops, Homed};
 ghost use Rattle.network.specs.Tables.{home_of_as, home_of_pair, is_as, is_pair, Open, Noted, NotedEnds, Places, Pairing, Paired};
 
 use super::link_at;
@@ -21,14 +21,14 @@ pub fn as_home(x: u32, homes: usize) -> usize
     requires { Homed homes }
     ensures { (result ≡ home_of_as homes x) × (result < homes) }
 {
-    spread((x as u64) * 1640531527, homes)
+    spread(u64::from(x) * 1640531527, homes)
 }
 
 // The whole product of two numbers of 32 bits.
 fn product(a: u32, b: u32) -> u64
     ensures { result ≡ a * b }
 {
-    (a as u64) * (b as u64)
+    u64::from(a) * u64::from(b)
 }
 
 // Where the search for a link's pair begins, either way round.
@@ -40,25 +40,11 @@ fn pair_home(l: Link, homes: usize) -> usize
     spread((m % 4294967296 + 5 * (m / 4294967296)) * 663608941, homes)
 }
 
-// Whether the search for x ends at slot s.
-pub fn as_stops(seats: &[u32], s: usize, x: u32) -> bool
-    requires { s < length seats.now }
-    ensures { result ≡ stops_at (is_as x) seats.now s }
+// How many of these slots the search for x passes: up to its own, or to an empty one where it belongs.
+pub fn find_as(seats: &[u32], x: u32) -> Option<usize>
+    ensures { result ≡ position (λ v. v == 0 || v == x) seats.now }
 {
-    let v = seats[s];
-    (v == 0) | (v == x)
-}
-
-// The slot of x, or the empty slot where it belongs.
-fn find_as(seats: &[u32], h: usize, x: u32) -> usize
-    requires { Room seats.now h }
-    ensures { Stopped (is_as x) seats.now h result }
-{
-    let mut s = h;
-    while !as_stops(seats, s, x) {
-        s += 1;
-    }
-    s
+    seats.iter().position(|v| *v == 0 || *v == x)
 }
 
 // Whether two links join the same two ASes, either way round.
@@ -68,28 +54,12 @@ fn same_pair(l: Link, k: Link) -> bool
     ((l.a == k.a) & (l.b == k.b)) | ((l.a == k.b) & (l.b == k.a))
 }
 
-// Whether the search for the pair of l ends at slot s.
-fn pair_stops(words: &[u32], pairs: &[u16], s: usize, l: Link) -> bool
-    requires { (s < length pairs.now) × Places words.now pairs.now }
-    ensures { result ≡ stops_at (is_pair words.now l) pairs.now s }
+// How many of these slots the search for the pair of l passes: up to a link that joins it, or to an empty one where it belongs.
+fn find_pair(words: &[u32], pairs: &[u16], l: Link) -> Option<usize>
+    requires { Places words.now pairs.now }
+    ensures { result ≡ position (stops (is_pair words.now l)) pairs.now }
 {
-    let v = pairs[s] as usize;
-    if v == 0 {
-        return true;
-    }
-    same_pair(l, link_at(words, v - 1))
-}
-
-// The slot of a link with the pair of l, or the empty slot where it belongs.
-fn find_pair(words: &[u32], pairs: &[u16], h: usize, l: Link) -> usize
-    requires { Room pairs.now h × Places words.now pairs.now }
-    ensures { Stopped (is_pair words.now l) pairs.now h result }
-{
-    let mut s = h;
-    while !pair_stops(words, pairs, s, l) {
-        s += 1;
-    }
-    s
+    pairs.iter().position(|v| *v == 0 || same_pair(l, link_at(words, usize::from(*v) - 1)))
 }
 
 // Puts x in if it is not there. The new number of ASes.
@@ -98,7 +68,7 @@ fn note_as(seats: &mut [u32], homes: usize, n: usize, x: u32) -> usize
     ensures { Noted homes x seats.old n seats.new result }
 {
     let h = as_home(x, homes);
-    let s = find_as(seats, h, x);
+    let s = h + find_as(&seats[h..], x).unwrap();
     if seats[s] == 0 {
         seats[s] = x;
         return n + 1;
@@ -122,7 +92,7 @@ pub fn note_pair(words: &[u32], pairs: &mut [u16], homes: usize, i: usize) -> bo
 {
     let l = link_at(words, i);
     let h = pair_home(l, homes);
-    let s = find_pair(words, pairs, h, l);
+    let s = h + find_pair(words, &pairs[h..], l).unwrap();
     if pairs[s] == 0 {
         pairs[s] = (i + 1) as u16;
         return false;

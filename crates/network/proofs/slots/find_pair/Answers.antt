@@ -1,12 +1,11 @@
-use Rattle.std.proofs.Common.{arith, ap, not}
-use Rattle.network.proofs.SlotLaws.{goes_on, stops, inside}
+-- Each slot's link is one of the words' links.
+use Rattle.std.proofs.Common.{rules, ◌*◌, ◌≤◌, length}
+use Rattle.std.proofs.lemmas.Iterator.{YieldsList-from_slice}
+use Rattle.std.proofs.lemmas.Iterator.Adapters.{serves_from_places}
+use Rattle.network.proofs.PairTableLaws.{place_at}
 use Rattle.network.proofs.slots.find_pair.Goals as goal
 
-pub pair_stops-requires : goal.pair_stops-requires
-pair_stops-requires c = ((inside c.requires.0 c.loop-l.invariant.1 c.loop-l.invariant.0), c.requires.1)
-
-pub loop-l-preserved : goal.loop-l-preserved
-loop-l-preserved c = (omega (arith, (inside c.requires.0 c.loop-l.invariant.1 c.loop-l.invariant.0)), goes_on c.pair_stops.result c.loop-l.invariant.1 c.pair_stops.ensures (ap not c.loop-l-test.true))
-
-pub returns : goal.returns
-returns c = stops c.pair_stops.result c.loop-l.invariant.1 ((inside c.requires.0 c.loop-l.invariant.1 c.loop-l.invariant.0)) c.pair_stops.ensures (ap not c.loop-l-test.false)
+pub position-requires-clause-callable : goal.position-requires-clause-callable
+position-requires-clause-callable c =
+    serves_from_places (YieldsList-from_slice c.args.pairs.now cc) (λ x q r. search rules)
+    (λ x k h e. let p : 3 * x.now ≤ length c.args.words.now = place_at c.requires h e in search rules)
