@@ -101,7 +101,7 @@ module _ (ws : List ℕ) (d : ℕ) (list old : List ℕ) (room : ℕ) (t : List 
     -- and after the phases
     module _ {first : List ℕ} where
       pub Phased-Electing : Filling ws d list n (length old) room → Placed (links_of ws) ps
-          → LaidTo (fresh_lines d) (ases_of (links_of ws)) n old first → Phased (links_of ws) ps (n - 1) first t → Electing (links_of ws) ps t n
+          → LaidTo (fresh_lines d) (ases_of (links_of ws)) n old first → Phased (links_of ws) ps (n - 1) first 4 t → Electing (links_of ws) ps t n
       Phased-Electing =
           rw count
           (λ f p b l.
@@ -116,7 +116,7 @@ module _ (ws : List ℕ) (d : ℕ) (list old : List ℕ) (room : ℕ) (t : List 
           })
 
       pub settled_Agreed : {best : List ℕ} (beyond : List ℕ) → Filling ws d list n (length old) room → Placed (links_of ws) ps
-          → LaidTo (fresh_lines d) (ases_of (links_of ws)) n old first → Phased (links_of ws) ps (n - 1) first t
+          → LaidTo (fresh_lines d) (ases_of (links_of ws)) n old first → Phased (links_of ws) ps (n - 1) first 4 t
           → best ≡ table_of (offers_to (links_of ws) t n) (ases_of (links_of ws)) ++ beyond → Agreed (links_of ws) d list n old t best
       settled_Agreed beyond =
           rw count

@@ -20,14 +20,5 @@ pub fn agrees(table: &[u32], best: &[u32], n: usize, destination: u32) -> bool
     requires { (4 * n ≤ length table.now) × (4 * n ≤ length best.now) }
     ensures { result ≡ true → Agrees destination table.now best.now n }
 {
-    let mut i = 0;
-    while i < n {
-        let due = due_at(table, best, i, destination);
-        if due.same(offers::pair_at(table, i)) {
-            i += 1;
-        } else {
-            return false;
-        }
-    }
-    true
+    (0..n).all(|i| due_at(table, best, i, destination) == offers::pair_at(table, i))
 }

@@ -18,11 +18,9 @@ pub fn take_hops(table: &mut [u32], best: &[u32], n: usize, destination: u32)
     requires { (4 * n ≤ length table.old) × (4 * n ≤ length best.now) }
     ensures { Hopped destination best.now n table.old table.new }
 {
-    let mut i = 0;
-    while i < n {
+    for i in 0..n {
         let pair = offers::pair_at(table, i);
         let next = hop_of(table, best, i, destination);
         offers::put_line(table, i, pair, next);
-        i += 1;
     }
 }

@@ -33,7 +33,7 @@ fn guess_lines(
 {
     offers::lay_fresh_lines(table, ases, n, destination);
     offers::place_ends(words, ases, n, room);
-    quick::guess(words, room, table, n);
+    quick::guess_pairs(words, room, table, n);
 }
 
 // The lines as they settle without a guess, whatever the table has, and the best offers under them.
