@@ -60,7 +60,7 @@ module _ (ls : List Link) (d : ℕ) {list old t best : List ℕ} (listed : take 
       ∙ sym (due_off (arcs_of ls) d P (get_or us i 0) ne)
 
   pair_at_lem : (i : ℕ) → i < length us → entry_pair t i ≡ (R (get_or us i 0)).pair
-  pair_at_lem i h = sym (a.agrees i h) ∙ at (ℕ_discrete (get_or us i 0) d)
+  pair_at_lem i h = sym (a.agrees i h).pair ∙ at (ℕ_discrete (get_or us i 0) d)
     where
       at : Dec (get_or us i 0 ≡ d) → pair_due d t best i ≡ (R (get_or us i 0)).pair
       at (yes e) = rw (eq-eqb (number_word t i) d (number i h ∙ e), e, due-own (arcs_of ls) d P) (sym (own_pair d))

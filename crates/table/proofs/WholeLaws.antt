@@ -168,5 +168,5 @@ module _ (ws : List ℕ) (d : ℕ) (ps : List ℕ) where
           lined = Lined-Framed (begun_Lined d begun list listed room) (phased_Framed ready phased);
           beyond = beyond;
           elected = elected;
-          agrees = λ i h. due_pair i h (ℕ_discrete (get_or us i 0) d) ∙ sym (pair_at_lem i h);
+          agrees = λ i h. record { pair = due_pair i h (ℕ_discrete (get_or us i 0) d) ∙ sym (pair_at_lem i h) };
         }

@@ -3,7 +3,8 @@
 --
 --   Lined us n t u     table u is t with entries for the first n ASes of us, each of which is its own next hop
 --   pair_due d t b i    the pair that is due at entry i of t: origin at the destination d, and else that of the best offers b
---   Agrees d t b n     each of the first n entries has the pair that is due
+--   IsDue d t b i      entry i has it
+--   Agrees d t b n     so has each of the first n entries
 --   due_hop d t b i    the next hop of entry i: its own at the destination d, and else that of table b
 --   Hopped d b n t u   table u is t with those next hops in its first n entries
 --   checked_of n v     a verdict with the number of ASes in place of its pass
@@ -39,8 +40,11 @@ pub record Lined (us : List ℕ) (n : ℕ) (t u : List ℕ) : Type 0 where
 abbrev pub pair_due : ℕ → List ℕ → List ℕ → ℕ → TypeLength
 pair_due d t b i = cond (eqb (number_word t i) d) origin_of (entry_pair b i)
 
+pub record IsDue (d : ℕ) (t b : List ℕ) (i : ℕ) : Type 0 where
+  pub pair : pair_due d t b i ≡ entry_pair t i
+
 abbrev pub Agrees : ℕ → List ℕ → List ℕ → ℕ → Type 0
-Agrees d t b n = (i : ℕ) → i < n → pair_due d t b i ≡ entry_pair t i
+Agrees d t b n = (i : ℕ) → i < n → IsDue d t b i
 
 abbrev pub due_hop : ℕ → List ℕ → List ℕ → ℕ → ℕ
 due_hop d t b i = cond (eqb (number_word t i) d) (next_word t i) (next_word b i)
