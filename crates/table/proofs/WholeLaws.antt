@@ -7,7 +7,7 @@ use mathlib.Core.List.{List, ◌++◌}
 use native.Mathlib.Omega.{arith}
 use native.Mathlib.Decide.{ℕ_discrete}
 use borrow.Author.Tests.{eq-eqb, ne_eqb}
-use lib.ListN.{length, get_or, take}
+use lib.ListN.{length, get_or}
 use Rattle.rules.specs.declared.Link.{Link}
 use Rattle.rules.specs.Lists.{In}
 use Rattle.rules.specs.Offers.{Arc}
@@ -162,10 +162,10 @@ module _ (ws : List ℕ) (d : ℕ) (ps : List ℕ) where
         (ap (λ (b : List ℕ). entry_pair b i) elected ∙ ap (λ (l : Line). l.pair) (table_line (offers_to ls t (length us)) beyond us i h)
         ∙ ap (λ (l : Line). l.pair) (offers_due t (phased_Ready ready phased).room number pairs (get_or us i 0) ne))
 
-    pub phased_Agreed : {list : List ℕ} → take (length us) list ≡ us → 4 * length us ≤ length old → Agreed ls d list (length us) old t best
-    phased_Agreed {list} listed room =
+    pub phased_Agreed : 4 * length us ≤ length old → Agreed ls d us old t best
+    phased_Agreed room =
         record {
-          lined = Lined-Framed (begun_Lined d begun list listed room) (phased_Framed ready phased);
+          lined = Lined-Framed (begun_Lined d begun room) (phased_Framed ready phased);
           beyond = beyond;
           elected = elected;
           agrees = λ i h. record { pair = due_pair i h (ℕ_discrete (get_or us i 0) d) ∙ sym (pair_at_lem i h) };

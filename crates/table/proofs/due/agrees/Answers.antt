@@ -9,7 +9,7 @@ use Rattle.table.proofs.due.agrees.Goals as goal
 pub returns : goal.returns
 returns c = λ e i h.
     let due = cases_from_all _ _ c.all.result (λ x. IsDue c.args.destination c.args.table.now c.args.best.now x) (λ x. Unit {0}) c.all.ensures.ran
-        (YieldsList-from_range 0 c.args.n c.args.n refl (omega arith)) (λ x q k. search rules) (λ x q k. tt) in
+    (YieldsList-from_range 0 c.args.n c.args.n refl (omega arith)) (λ x q k. search rules) (λ x q k. tt) in
     let all = rw e at due in
     let place : get_or (range_with_len 0 c.args.n) i 0 ≡ i = get_or-range_with_len 0 c.args.n i 0 h ∙ omega arith in
     rw place at (all i 0 (omega arith) (omega (arith, length-range_with_len 0 c.args.n)))

@@ -1,4 +1,4 @@
-use Rattle.std.proofs.Common.{arith, rules}
+use Rattle.std.proofs.Common.{arith}
 use Rattle.table.proofs.PhaseLaws.{passed_none, Passed-more, Stays-none, Stays-more, after_taken, after_room}
 use Rattle.table.proofs.phases.Settling.pass.Goals as goal
 
