@@ -33,7 +33,7 @@ use Rattle.table.specs.Entries.{Filled}
 use Rattle.table.specs.Guess.{Guessing, Guessed}
 use Rattle.table.specs.Phases.{Ready, Phased}
 use Rattle.table.specs.Steps.{Hopped, Tried, Agreed}
-use Rattle.table.proofs.LineLaws.{lined_self, Lined-more, Lined-Framed}
+use Rattle.table.proofs.LineLaws.{Lined-more, Lined-Framed}
 use Rattle.table.proofs.StepLaws.{begun_Lined, begun_short}
 use Rattle.table.proofs.WholeLaws.{phased_Ready, phased_Framed, phased_Agreed}
 use Rattle.table.proofs.AgreedLaws.{agreed_Filled}
@@ -120,9 +120,6 @@ module _ {ws us : List ℕ} (a : Asked ws us) where
 
 -- what was tried is a beginning of its own, from which the choice goes on
 module _ {ls : List Link} {us old t ps : List ℕ} (l : Tried ls us old t ps) where
-  pub Tried-self : Tried ls us t t ps
-  Tried-self = record { lined = lined_self l.lined; low = l.low; placed = l.placed }
-
   pub tried_Agreed : {d : ℕ} {u best : List ℕ} → Agreed ls d us t u best → Agreed ls d us old u best
   tried_Agreed a = record { lined = Lined-more l.lined a.lined; beyond = a.beyond; elected = a.elected; agrees = a.agrees }
 

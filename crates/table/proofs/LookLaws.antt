@@ -1,10 +1,9 @@
 -- The look at the input, refusal by refusal: what each test says of the reply, and what an input that passes has.
-use Prim.Native.Nat.{ℕ, ◌*◌}
+use Prim.Native.Nat.{ℕ, ◌≤◌}
 use mathlib.Core.Path.{◌≡◌, refl, sym, ◌∙◌, ap}
 use mathlib.Core.Bool.{true, false}
 use mathlib.Core.List.{List}
 use native.Mathlib.Omega.{arith}
-use borrow.Author.Tests.{leb-true}
 use lib.Dec.{eqb}
 use lib.ListN.{length, take, replicate}
 use Rattle.std.proofs.Math.Seq.{take-length}
@@ -12,23 +11,26 @@ use Rattle.std.specs.Prelude.{Err, Ok, Option, Some, None, is_some}
 use Rattle.rules.specs.Replies.{Verdict}
 use Rattle.rules.specs.declared.Limits.{Limits}
 use Rattle.rules.specs.declared.Refusal.{Refusal}
-use Rattle.rules.specs.declared.Refusal.TheVariants.{OutputShort, RoomShort}
 use Rattle.rules.specs.Ascending.{Ascending}
 use Rattle.rules.specs.Lists.{any_of}
 use Rattle.rules.specs.Network.{links_of, ases_of}
 use Rattle.rules.specs.Checks.{base_limits, check_words}
-use Rattle.rules.specs.Entry.{fault_of_links, fault_of_destination, fault_of_output}
+use Rattle.rules.specs.Entry.{fault_of_links, fault_of_destination}
 use Rattle.rules.proofs.ListLaws.{member_no}
 use Rattle.rules.proofs.NetworkLaws.{ases_Ascending}
 use Rattle.rules.proofs.AcceptedLinks.{check_words-Accepted}
-use Rattle.rules.proofs.VerdictLaws.{both_pass, test_passes, accepted}
-use Rattle.network.specs.Promises.{Stands}
+use Rattle.rules.proofs.VerdictLaws.{accepted}
+use Rattle.network.specs.Promises.{count_of, Stands}
+use Rattle.network.proofs.PrefixLaws.{count}
 use Rattle.network.proofs.ListedLaws.{Stands-nowhere}
 use Rattle.table.specs.declared.asked.Question.{Question}
 use Rattle.table.specs.Entries.{fault_of_table, Filled, Tabled}
-use Rattle.table.specs.Steps.{fault_of_sizes, Fits}
+use Rattle.table.specs.Steps.{fault_of_sizes}
 
--- The ASes ------------------------------------------------------------------------------------------------------------------
+-- The links and the ASes ------------------------------------------------------------------------------------------------------------------
+
+pub few_links : (ws : List ℕ) (n : ℕ) → check_words base_limits ws ≡ Ok n → count_of ws ≤ 1536
+few_links ws n a = omega (arith, count ws, (check_words-Accepted base_limits ws n a).1.few_links)
 
 -- accepted links whose ASes are counted
 pub counted_accepted : (ws : List ℕ) (n : ℕ) → fault_of_links base_limits ws ≡ Ok tt → n ≡ length (ases_of (links_of ws)) → check_words base_limits ws ≡ Ok n
@@ -66,14 +68,6 @@ pub question_sizes : (q : Question) (ws : List ℕ) (d table room : ℕ) {v : Ve
     → q.destination ≡ d → v ≡ fault_of_sizes q.network.words.now q.ases.now table room → fault_of_table base_limits ws d table room ≡ v
 question_sizes q ws d table room links words same e =
     fault-sizes base_limits ws d table room links (rw words at q.listed) (rw same at q.member) (rw words at e)
-
-pub sizes_Fits : (ws us : List ℕ) (table room : ℕ) → Ok tt ≡ fault_of_sizes ws us table room → Fits ws us table room
-sizes_Fits ws us table room e =
-    let (entries, words) = both_pass (fault_of_output (4 * length us) table) _ (sym e) in
-    record {
-      entries = leb-true (4 * length us) table (test_passes _ (Ok tt) OutputShort entries).0;
-      words = leb-true _ room (test_passes _ (Ok tt) RoomShort words).0;
-    }
 
 -- The whole promise, from the reply -------------------------------------------------------------------------------------------
 

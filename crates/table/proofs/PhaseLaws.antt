@@ -191,19 +191,19 @@ Stays-more a b = record { words = b.words ∙ a.words; places = b.places ∙ a.p
 
 module _ (g h : Settling) (s : Stays g h) where
   abbrev ls : List Link
-  ls = links_of g.words.now
+  ls = links_of g.network.words.now
 
-  pub after_taken : (f k : ℕ) (u : List ℕ) (r : Bool) → Taken f h.cap h.table.now (way_of_direction (links_of h.words.now) h.places.now k) u r
+  pub after_taken : (f k : ℕ) (u : List ℕ) (r : Bool) → Taken f h.cap h.table.now (way_of_direction (links_of h.network.words.now) h.places.now k) u r
       → Taken f g.cap h.table.now (way_of_direction ls g.places.now k) u r
   after_taken f k u r t = rw (s.cap, s.words, s.places) at t
 
   pub after_room : 4 * length (ases_of ls) ≤ length h.table.now
   after_room = rw s.words at h.ready.room
 
-  pub after_passed : {f : ℕ} {u : List ℕ} {r : Bool} → Passed (links_of h.words.now) h.places.now (2 * length (links_of h.words.now)) f h.cap h.table.now u r
+  pub after_passed : {f : ℕ} {u : List ℕ} {r : Bool} → Passed (links_of h.network.words.now) h.places.now (2 * length (links_of h.network.words.now)) f h.cap h.table.now u r
       → Passed ls g.places.now (2 * length ls) f g.cap h.table.now u r
   after_passed p = rw (s.cap, s.words, s.places) at p
 
-  pub after_settled : {f : ℕ} {u : List ℕ} → Settled (links_of h.words.now) h.places.now f h.cap h.table.now u
+  pub after_settled : {f : ℕ} {u : List ℕ} → Settled (links_of h.network.words.now) h.places.now f h.cap h.table.now u
       → Settled ls g.places.now f g.cap h.table.now u
   after_settled p = rw (s.cap, s.words, s.places) at p

@@ -1,7 +1,7 @@
 -- The table as it begins, with fresh lines; and one turn of the loop that takes next hops over: the entry of the turn is right, those
 -- before it stay.
 use Prim.Native.Nat.{ℕ, ◌+◌, ◌*◌, ◌≤◌, ◌<◌}
-use mathlib.Core.Path.{◌≡◌, refl, ◌∙◌, ap}
+use mathlib.Core.Path.{◌≡◌, ◌∙◌, ap}
 use mathlib.Core.Bool.{cond}
 use mathlib.Core.List.{List}
 use native.Mathlib.Omega.{arith}
@@ -36,10 +36,6 @@ module _ (d : ℕ) {us old t : List ℕ} (b : LaidTo (fresh_lines d) us (length 
 
   pub begun_short : (i : ℕ) → i < length us → length_word t i ≡ 0
   begun_short i h = ap (λ (l : Line). l.pair.length) (Laid-Line b i h) ∙ fresh-Short d (get_or us i 0)
-
-pub Hopped-none : (d : ℕ) (best t : List ℕ) → Hopped d best 0 t t
-Hopped-none d best t =
-    record { long = refl; number = λ i. refl; pair = λ i. refl; next = λ i l. absurd (omega arith); rest = λ w l. refl }
 
 module _ (d : ℕ) (best : List ℕ) (i : ℕ) (t u : List ℕ) (room : 4 * i + 4 ≤ length u) (b : Hopped d best i t u) where
   abbrev taken : Line

@@ -67,7 +67,7 @@ impl<'a> Question<'a> {
         let n = self.ases.len();
         offers::lay_fresh_lines(table, self.ases, n, self.destination);
         offers::place_ends(self.network.words, self.ases, n, room);
-        quick::guess_pairs(self.network.words, room, table, n);
+        quick::guess_pairs(self.network, room, table, n);
     }
 
     // The lines as they settle without a guess, whatever the table has, and the best offers under them.
@@ -77,7 +77,7 @@ impl<'a> Question<'a> {
     {
         let n = self.ases.len();
         offers::lay_fresh_lines(table, self.ases, n, self.destination);
-        phases::settle(self.network.words, places, table, (n - 1) as u32);
+        phases::settle(self.network, places, table, (n - 1) as u32);
         offers::elect_links(self.network.words, places, table, best, n);
     }
 

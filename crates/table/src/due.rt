@@ -1,4 +1,5 @@
 // Whether every pair of the table is the one that is due: origin at the destination, and else the best offer's.
+// Kept: n beside the tables, as in `offers`: an entry is four words, so a slice of n entries would be cut, and its length divided, by four.
 ghost use Rattle.std.specs.Prelude.{◌+◌, ◌*◌, ◌≤◌, ◌≡◌, true, length};
 ghost use Rattle.table.specs.Steps.{pair_due, IsDue, Agrees};
 

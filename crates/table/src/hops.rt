@@ -1,4 +1,5 @@
 // Next hops, taken over from the table of best offers.
+// Kept: n beside the table, whose words beyond 4n stay, as in `offers`.
 ghost use Rattle.std.specs.Prelude.{◌+◌, ◌*◌, ◌≤◌, ◌≡◌, length};
 ghost use Rattle.table.specs.Steps.{due_hop, Hopped};
 

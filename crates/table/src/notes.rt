@@ -2,8 +2,9 @@
 // AS is marked there by one more than its number, so that 0 is none.
 ghost use Rattle.std.specs.Prelude.{◌<◌, IfSome};
 ghost use Rattle.std.specs.Iterator.{at_most};
-ghost use Rattle.network.specs.Promises.{HasLink};
+ghost use Rattle.network.specs.Promises.{count_of};
 
+use network::Network;
 use offers::scratch;
 
 // The passes over provider links: up, providers hear their customers, and down, customers hear their providers.
@@ -51,11 +52,11 @@ pub fn head_of(place: u32) -> usize {
 }
 
 // Link i, for a pass. The head is chosen first, so that no branch hangs on the relation.
-fn note_link(words: &[u32], places: &[u32], index: &mut [u32], pass: Pass, i: usize)
-    requires { HasLink words.now i × (i < 1536) }
+fn note_link(network: Network<'_>, places: &[u32], index: &mut [u32], pass: Pass, i: usize)
+    requires { i < count_of network.words.now }
 {
     let teller = scratch::at(places, 2 * i + pass.teller());
-    let head = if network::link_at(words, i).relation == 1 {
+    let head = if network::link_at(network.words, i).relation == 1 {
         head_of(teller)
     } else {
         PEERS
@@ -64,9 +65,9 @@ fn note_link(words: &[u32], places: &[u32], index: &mut [u32], pass: Pass, i: us
 }
 
 // All links, those with smaller places first.
-pub fn note_links(words: &[u32], places: &[u32], index: &mut [u32], pass: Pass) {
-    for i in 0..scratch::indexed(words) {
-        note_link(words, places, index, pass, i);
+pub fn note_links(network: Network<'_>, places: &[u32], index: &mut [u32], pass: Pass) {
+    for i in 0..network.links() {
+        note_link(network, places, index, pass, i);
     }
 }
 

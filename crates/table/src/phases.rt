@@ -1,9 +1,10 @@
 // The three phases by one pass: phase f gives lines of type f, over one direction after the other, until a pass changes nothing.
+// Kept: a phase is a number, since it is the type of the lines that it gives, which is one in `rules`.
 ghost use Rattle.std.specs.Prelude.{◌*◌, ◌≡◌, length};
 ghost use Rattle.rules.specs.Network.{links_of};
 ghost use Rattle.table.specs.Phases.{offered_at, gains, Joins, Taken, Ready, Phased};
 
-use network::WORDS_PER_LINK;
+use network::Network;
 use offers::Way;
 use rules::TypeLength;
 
@@ -36,14 +37,14 @@ fn take_offer(table: &mut [u32], way: Way, phase: u32, cap: u32) -> bool
     false
 }
 
-// A table that settles: the links, the places of their ends, the table of their ASes, and a cap on the lengths in it.
+// A table that settles: the network, the places of the links' ends, the table of its ASes, and a cap on the lengths in it.
 #[derive(Drop)]
 struct Settling<'a> {
-    words: &'a [u32],
+    network: Network<'a>,
     places: &'a [u32],
     table: &'a mut [u32],
     cap: u32,
-    ghost ready: { Ready words.now places.now cap table.now },
+    ghost ready: { Ready network.words.now places.now cap table.now },
 }
 
 impl<'a> Settling<'a> {
@@ -55,21 +56,21 @@ impl<'a> Settling<'a> {
 
     // The same over direction k.
     fn offer(&mut self, k: usize, phase: u32) -> bool
-        requires { k < 2 * length (links_of self.old.words.now) }
+        requires { k < 2 * length (links_of self.old.network.words.now) }
         ensures stays { Stays self.old self.new }
-        ensures taken { Taken phase self.old.cap self.old.table.now (way_of_direction (links_of self.old.words.now) self.old.places.now k) self.new.table.now result }
+        ensures taken { Taken phase self.old.cap self.old.table.now (way_of_direction (links_of self.old.network.words.now) self.old.places.now k) self.new.table.now result }
     {
-        let way = offers::way_at(self.words, self.places, k);
+        let way = offers::way_at(self.network.words, self.places, k);
         take_offer(self.table, way, phase, self.cap)
     }
 
     // One pass over all directions. Whether it changed anything.
     fn pass(&mut self, phase: u32) -> bool
         ensures stays { Stays self.old self.new }
-        ensures passed { Passed (links_of self.old.words.now) self.old.places.now (2 * length (links_of self.old.words.now)) phase self.old.cap self.old.table.now self.new.table.now result }
+        ensures passed { Passed (links_of self.old.network.words.now) self.old.places.now (2 * length (links_of self.old.network.words.now)) phase self.old.cap self.old.table.now self.new.table.now result }
     {
         let mut changed = false;
-        for k in 0..2 * (self.words.len() / WORDS_PER_LINK) {
+        for k in 0..2 * self.network.links() {
             changed |= self.offer(k, phase);
         }
         changed
@@ -78,7 +79,7 @@ impl<'a> Settling<'a> {
     // Passes until one changes nothing.
     fn run(&mut self, phase: u32)
         ensures stays { Stays self.old self.new }
-        ensures settled { Settled (links_of self.old.words.now) self.old.places.now phase self.old.cap self.old.table.now self.new.table.now }
+        ensures settled { Settled (links_of self.old.network.words.now) self.old.places.now phase self.old.cap self.old.table.now self.new.table.now }
     {
         while self.pass(phase) {}
     }
@@ -86,7 +87,7 @@ impl<'a> Settling<'a> {
     // Customer lines, then peer lines, then provider lines.
     fn run_all(&mut self)
         ensures loan { self.new.table.ghost_name ≡ self.old.table.ghost_name }
-        ensures phased { Phased (links_of self.old.words.now) self.old.places.now self.old.cap self.old.table.now 4 self.new.table.now }
+        ensures phased { Phased (links_of self.old.network.words.now) self.old.places.now self.old.cap self.old.table.now 4 self.new.table.now }
     {
         for phase in 1..=3 {
             self.run(phase);
@@ -95,12 +96,12 @@ impl<'a> Settling<'a> {
 }
 
 // The lines of a table as they settle, where no length in it goes above the cap.
-pub fn settle(words: &[u32], places: &[u32], table: &mut [u32], cap: u32)
-    requires { Ready words.now places.now cap table.old }
-    ensures { Phased (links_of words.now) places.now cap table.old 4 table.new }
+pub fn settle(network: Network<'_>, places: &[u32], table: &mut [u32], cap: u32)
+    requires { Ready network.words.now places.now cap table.old }
+    ensures { Phased (links_of network.entry.words.now) places.now cap table.old 4 table.new }
 {
     let mut settling = Settling {
-        words,
+        network,
         places,
         table,
         cap,

@@ -1,14 +1,16 @@
 // The pairs of the table, guessed quickly: by phase, and within a phase by length. Nothing is proved of their rightness, only that
-// nothing but pairs changes: rightness rests on the election that judges them (`choose_lines` in lib.rt), and speed on this guess.
+// nothing but pairs changes: rightness rests on the election that judges them (`choose_lines` in asked.rt), and speed on this guess.
 ghost use Rattle.std.specs.Prelude.{◌*◌, ◌≤◌, length};
 ghost use Rattle.table.specs.Guess.{Guessing, Guessed};
 
 use crate::notes;
 use crate::notes::{Noted, Pass};
+use network::Network;
 use rules::TypeLength;
 
 // A guess at work: where the ends of the links stand, the links that are noted for its pass, the table with its first n entries, and
 // the ASes that wait to tell.
+// Kept: n beside the table, whose words beyond 4n stay: an index is then tested by one comparison, and no length is divided by four.
 #[derive(Drop)]
 struct Guess<'a> {
     places: &'a [u32],
@@ -89,9 +91,9 @@ impl<'a> Guess<'a> {
         let Some(pair) = self.told(teller as usize, self.pass.typ()) else {
             return;
         };
+        let (places, end) = (self.places, self.pass.hearer());
         for link in Noted::under(self.index, notes::head_of(teller)) {
-            let hearer = notes::place_of(self.places, link, self.pass.hearer());
-            self.tell(hearer, pair);
+            self.tell(notes::place_of(places, link, end), pair);
         }
     }
 
@@ -166,13 +168,13 @@ impl<'a> Guess<'a> {
 }
 
 // All that is told over customer links, and then over peer links; or all that is told over provider links.
-fn guess_pass(words: &[u32], places: &[u32], table: &mut [u32], n: usize, pass: Pass)
+fn guess_pass(network: Network<'_>, places: &[u32], table: &mut [u32], n: usize, pass: Pass)
     requires { Guessing n table.old }
     ensures { Guessed n table.old table.new }
 {
     let mut index = [0u32; 2049];
     let mut shelf = [0u32; 1025];
-    notes::note_links(words, places, &mut index, pass);
+    notes::note_links(network, places, &mut index, pass);
     let mut guess = Guess {
         places,
         index: &index,
@@ -196,12 +198,12 @@ fn any_open(table: &[u32], n: usize) -> bool
 
 // The pairs of all n lines, from those that are there: over customer links, then peer links, then provider links, if somebody is left to
 // hear of them.
-pub fn guess_pairs(words: &[u32], places: &[u32], table: &mut [u32], n: usize)
+pub fn guess_pairs(network: Network<'_>, places: &[u32], table: &mut [u32], n: usize)
     requires { Guessing n table.old }
     ensures { Guessed n table.old table.new }
 {
-    guess_pass(words, places, table, n, Pass::Up);
+    guess_pass(network, places, table, n, Pass::Up);
     if any_open(table, n) {
-        guess_pass(words, places, table, n, Pass::Down);
+        guess_pass(network, places, table, n, Pass::Down);
     }
 }

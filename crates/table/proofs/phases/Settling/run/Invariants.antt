@@ -9,8 +9,8 @@ use Rattle.table.proofs.phases.Settling.run.Given as goal
 abbrev pub invariant-loop : goal.invariant-loop
 invariant-loop l = record {
   stays : Stays l.initial.self l.self;
-  reached : Reached (way_of_direction (links_of l.initial.self.words.now) l.initial.self.places.now) (2 * length (links_of l.initial.self.words.now)) l.phase l.initial.self.cap l.initial.self.table.now l.self.table.now;
+  reached : Reached (way_of_direction (links_of l.initial.self.network.words.now) l.initial.self.places.now) (2 * length (links_of l.initial.self.network.words.now)) l.phase l.initial.self.cap l.initial.self.table.now l.self.table.now;
 }
 
 abbrev pub decreases-loop : goal.decreases-loop
-decreases-loop l = height l.phase l.self.cap (length (ases_of (links_of l.self.words.now))) l.self.table.now
+decreases-loop l = height l.phase l.self.cap (length (ases_of (links_of l.self.network.words.now))) l.self.table.now
