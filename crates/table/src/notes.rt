@@ -1,5 +1,6 @@
 // What a guess (quick.rt) notes in scratch memory: links in an index, and ASes that wait on a shelf to tell what they have. A link or an
 // AS is marked there by one more than its number, so that 0 is none.
+// Kept: marks in memory, since scratch memory is words; what reads them gives an Option or an iterator.
 ghost use Rattle.std.specs.Prelude.{◌<◌, IfSome};
 ghost use Rattle.std.specs.Iterator.{at_most};
 ghost use Rattle.network.specs.Promises.{count_of};

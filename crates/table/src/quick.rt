@@ -44,7 +44,7 @@ impl<'a> Guess<'a> {
     }
 
     // Whether no AS waits with a length.
-    fn is_told(&self, length: usize) -> bool {
+    fn nobody_waits(&self, length: usize) -> bool {
         notes::is_empty(self.shelf, length)
     }
 
@@ -130,7 +130,7 @@ impl<'a> Guess<'a> {
     {
         self.wait_all();
         for length in 0..self.n {
-            if self.is_told(length) {
+            if self.nobody_waits(length) {
                 return;
             }
             self.tell_length(length);
