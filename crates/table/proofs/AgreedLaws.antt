@@ -7,7 +7,7 @@ use mathlib.Core.List.{List, ◌++◌}
 use native.Mathlib.Omega.{arith}
 use native.Mathlib.Decide.{ℕ_discrete}
 use borrow.Author.Tests.{eq-eqb, ne_eqb}
-use lib.ListN.{length, get_or, take, drop}
+use lib.ListN.{length, get_or, drop}
 use Rattle.rules.specs.declared.Link.{Link}
 use Rattle.rules.specs.Pairs.{origin_of}
 use Rattle.rules.specs.Lists.{In}
@@ -25,7 +25,7 @@ use Rattle.offers.proofs.PlaceLaws.{place-In}
 use Rattle.offers.proofs.TableLaws.{table_line, printed_at}
 use Rattle.table.specs.Entries.{Filled}
 use Rattle.table.specs.Steps.{pair_due, due_hop, Hopped, Agreed}
-use Rattle.table.proofs.WordLaws.{list_at, table_is}
+use Rattle.table.proofs.WordLaws.{table_is}
 
 -- the destination's line
 own_pair : (d : ℕ) → (own d).pair ≡ origin_of
@@ -36,8 +36,8 @@ own_next : (d : ℕ) → (own d).next ≡ d
 unfolding own
 own_next d = refl
 
-module _ (ls : List Link) (d : ℕ) {list old t best : List ℕ} (listed : take (length (ases_of ls)) list ≡ ases_of ls)
-    (room : 4 * length (ases_of ls) ≤ length old) (a : Agreed ls d list (length (ases_of ls)) old t best) where
+module _ (ls : List Link) (d : ℕ) {old t best : List ℕ} (room : 4 * length (ases_of ls) ≤ length old)
+    (a : Agreed ls d (ases_of ls) old t best) where
   abbrev us : List ℕ
   us = ases_of ls
 
@@ -49,7 +49,7 @@ module _ (ls : List Link) (d : ℕ) {list old t best : List ℕ} (listed : take 
   R = due (arcs_of ls) d P
 
   number : (i : ℕ) → i < length us → number_word t i ≡ get_or us i 0
-  number i h = a.lined.number i h ∙ list_at list us listed i h
+  number = a.lined.number
 
   says : (i : ℕ) → i < length us → P (get_or us i 0) ≡ entry_line t i
   says = printed_at us t (ases_Distinct ls) (omega (arith, a.lined.long)) number
@@ -60,7 +60,7 @@ module _ (ls : List Link) (d : ℕ) {list old t best : List ℕ} (listed : take 
       ∙ sym (due_off (arcs_of ls) d P (get_or us i 0) ne)
 
   pair_at_lem : (i : ℕ) → i < length us → entry_pair t i ≡ (R (get_or us i 0)).pair
-  pair_at_lem i h = sym (a.agrees i h) ∙ at (ℕ_discrete (get_or us i 0) d)
+  pair_at_lem i h = sym (a.agrees i h).pair ∙ at (ℕ_discrete (get_or us i 0) d)
     where
       at : Dec (get_or us i 0 ≡ d) → pair_due d t best i ≡ (R (get_or us i 0)).pair
       at (yes e) = rw (eq-eqb (number_word t i) d (number i h ∙ e), e, due-own (arcs_of ls) d P) (sym (own_pair d))
@@ -88,7 +88,7 @@ module _ (ls : List Link) (d : ℕ) {list old t best : List ℕ} (listed : take 
         at : Dec (get_or us i 0 ≡ d) → due_hop d t best i ≡ (R (get_or us i 0)).next
         at (yes e) =
             rw (eq-eqb (number_word t i) d (number i h ∙ e), e, due-own (arcs_of ls) d P)
-            (a.lined.next i h ∙ list_at list us listed i h ∙ e ∙ sym (own_next d))
+            (a.lined.next i h ∙ e ∙ sym (own_next d))
         at (no ne) = rw (ne_eqb (number_word t i) d (λ e. ne (sym (number i h) ∙ e))) (ap (λ (l : Line). l.next) (best-line i h ne))
 
     pub agreed_Filled : Filled ls d old new

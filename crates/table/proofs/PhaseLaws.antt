@@ -1,7 +1,7 @@
 -- Gains over a table: each keeps the table's frame and its lengths within the cap, and lowers its height; a whole pass that gains
 -- nothing finds every way calm. By one step, and along the gains.
 use Prim.Native.Nat.{ℕ, zero, suc, ◌+◌, ◌*◌, ◌/◌, ◌≤◌, ◌<◌}
-use mathlib.Core.Path.{◌≡◌, refl, sym, ap}
+use mathlib.Core.Path.{◌≡◌, refl, sym, ◌∙◌, ap}
 use mathlib.Core.Logic.{◌≢◌}
 use mathlib.Core.Bool.{Bool, true, false, cond, ◌||◌, false≢true}
 use mathlib.Core.List.{List}
@@ -22,7 +22,9 @@ use Rattle.offers.specs.Steps.{Placed}
 use Rattle.offers.proofs.PlaceLaws.{Placed-long}
 use Rattle.offers.proofs.WayLaws.{way_arc}
 use Rattle.table.specs.Guess.{Framed}
-use Rattle.table.specs.Phases.{offered_at, wants, heard_over, Joins, Taken, Reached, begun, gained, CalmBelow, weight, sum, height, Moved, Short, Ready, Passed}
+use Rattle.table.specs.Phases.{offered_at, wants, heard_over, Joins, Taken, Reached, begun, gained, CalmBelow, weight, sum, height, Moved, Short, Ready, Passed, Settled}
+use Rattle.table.specs.PhaseSteps.{Stays}
+use Rattle.table.specs.declared.phases.Settling.{Settling}
 use Rattle.table.proofs.LineLaws.{put_pair, put_other_pair, Framed-put, Framed-same, Framed-more}
 use Rattle.table.proofs.CloseLaws.{Gain, gains_means}
 
@@ -178,3 +180,30 @@ module _ {ws ps : List ℕ} {cap : ℕ} {t : List ℕ} (r : Ready ws ps cap t) w
             },
             Framed-more q g,
           )
+
+-- A table that settles, step after step ------------------------------------------------------------------------------------
+
+pub Stays-none : (g : Settling) → Stays g g
+Stays-none g = record { words = refl; places = refl; cap = refl; loan = refl }
+
+pub Stays-more : {f g h : Settling} → Stays f g → Stays g h → Stays f h
+Stays-more a b = record { words = b.words ∙ a.words; places = b.places ∙ a.places; cap = b.cap ∙ a.cap; loan = b.loan ∙ a.loan }
+
+module _ (g h : Settling) (s : Stays g h) where
+  abbrev ls : List Link
+  ls = links_of g.network.words.now
+
+  pub after_taken : (f k : ℕ) (u : List ℕ) (r : Bool) → Taken f h.cap h.table.now (way_of_direction (links_of h.network.words.now) h.places.now k) u r
+      → Taken f g.cap h.table.now (way_of_direction ls g.places.now k) u r
+  after_taken f k u r t = rw (s.cap, s.words, s.places) at t
+
+  pub after_room : 4 * length (ases_of ls) ≤ length h.table.now
+  after_room = rw s.words at h.ready.room
+
+  pub after_passed : {f : ℕ} {u : List ℕ} {r : Bool} → Passed (links_of h.network.words.now) h.places.now (2 * length (links_of h.network.words.now)) f h.cap h.table.now u r
+      → Passed ls g.places.now (2 * length ls) f g.cap h.table.now u r
+  after_passed p = rw (s.cap, s.words, s.places) at p
+
+  pub after_settled : {f : ℕ} {u : List ℕ} → Settled (links_of h.network.words.now) h.places.now f h.cap h.table.now u
+      → Settled ls g.places.now f g.cap h.table.now u
+  after_settled p = rw (s.cap, s.words, s.places) at p

@@ -1,15 +1,14 @@
 -- The table as it begins, with fresh lines; and one turn of the loop that takes next hops over: the entry of the turn is right, those
 -- before it stay.
 use Prim.Native.Nat.{ℕ, ◌+◌, ◌*◌, ◌≤◌, ◌<◌}
-use mathlib.Core.Path.{◌≡◌, refl, ◌∙◌, ap}
+use mathlib.Core.Path.{◌≡◌, ◌∙◌, ap}
 use mathlib.Core.Bool.{cond}
 use mathlib.Core.List.{List}
 use native.Mathlib.Omega.{arith}
 use native.Mathlib.Decide.{ℕ_discrete}
 use borrow.Author.Count.{below_more}
 use lib.Dec.{eqb}
-use lib.ListN.{length, get_or, take}
-use lib.Seq.{get_or-take}
+use lib.ListN.{length, get_or}
 use Rattle.rules.specs.declared.TypeLength.{TypeLength}
 use Rattle.rules.specs.Stable.{Line}
 use Rattle.offers.specs.Lines.{number_word, length_word, next_word, entry_pair, with_line, fresh_lines}
@@ -25,25 +24,18 @@ fresh-Short d u = go (ℕ_discrete u d)
     go (yes e) = ap (λ (p : TypeLength). p.length) (fresh_own d u e)
     go (no ne) = ap (λ (p : TypeLength). p.length) (fresh_other d u ne)
 
-module _ (d : ℕ) {us : List ℕ} {n : ℕ} {old t : List ℕ} (b : LaidTo (fresh_lines d) us n old t) where
-  pub begun_Lined : (list : List ℕ) → take n list ≡ us → 4 * n ≤ length old → Lined list n old t
-  begun_Lined list e room =
+module _ (d : ℕ) {us old t : List ℕ} (b : LaidTo (fresh_lines d) us (length us) old t) where
+  pub begun_Lined : 4 * length us ≤ length old → Lined us old t
+  begun_Lined room =
       record {
         long = laid_long b room;
-        number = λ i h. laid_number b i h ∙ listed i h;
-        next = λ i h. ap (λ (l : Line). l.next) (Laid-Line b i h) ∙ fresh_next d (get_or us i 0) ∙ listed i h;
+        number = laid_number b;
+        next = λ i h. ap (λ (l : Line). l.next) (Laid-Line b i h) ∙ fresh_next d (get_or us i 0);
         rest = laid_word b;
       }
-    where
-      listed : (i : ℕ) → i < n → get_or us i 0 ≡ get_or list i 0
-      listed i h = rw (← e) (get_or-take n list i 0 h)
 
-  pub begun_short : (i : ℕ) → i < n → length_word t i ≡ 0
+  pub begun_short : (i : ℕ) → i < length us → length_word t i ≡ 0
   begun_short i h = ap (λ (l : Line). l.pair.length) (Laid-Line b i h) ∙ fresh-Short d (get_or us i 0)
-
-pub Hopped-none : (d : ℕ) (best t : List ℕ) → Hopped d best 0 t t
-Hopped-none d best t =
-    record { long = refl; number = λ i. refl; pair = λ i. refl; next = λ i l. absurd (omega arith); rest = λ w l. refl }
 
 module _ (d : ℕ) (best : List ℕ) (i : ℕ) (t u : List ℕ) (room : 4 * i + 4 ≤ length u) (b : Hopped d best i t u) where
   abbrev taken : Line

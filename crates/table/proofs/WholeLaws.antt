@@ -1,13 +1,13 @@
 -- The phases: what is begun and settled in three phases has the pairs that are due. The stable routing is known (`stable_of-Stable`); the
 -- phases leave its pairs (`NearLaws`), and what is due hangs on pairs alone.
-use Prim.Native.Nat.{ℕ, ◌-◌, ◌*◌, ◌≤◌, ◌<◌}
+use Prim.Native.Nat.{ℕ, suc, ◌-◌, ◌*◌, ◌≤◌, ◌<◌}
 use mathlib.Core.Path.{◌≡◌, refl, sym, ◌∙◌, ap}
 use mathlib.Core.Logic.{◌≢◌}
 use mathlib.Core.List.{List, ◌++◌}
 use native.Mathlib.Omega.{arith}
 use native.Mathlib.Decide.{ℕ_discrete}
 use borrow.Author.Tests.{eq-eqb, ne_eqb}
-use lib.ListN.{length, get_or, take}
+use lib.ListN.{length, get_or}
 use Rattle.rules.specs.declared.Link.{Link}
 use Rattle.rules.specs.Lists.{In}
 use Rattle.rules.specs.Offers.{Arc}
@@ -30,9 +30,9 @@ use Rattle.offers.proofs.PlaceLaws.{place-In, place_at}
 use Rattle.offers.proofs.TableLaws.{table_line, printed_at}
 use Rattle.offers.proofs.FreshLaws.{LaidTo, laid_number, Laid-Line, fresh_own, fresh_other}
 use Rattle.table.specs.Guess.{Framed}
-use Rattle.table.specs.Phases.{Ready, Phased}
+use Rattle.table.specs.Phases.{Ready, Phased, first_phase, next_phase}
 use Rattle.table.specs.Steps.{pair_due, Agreed}
-use Rattle.table.proofs.LineLaws.{Framed-more, Lined-Framed}
+use Rattle.table.proofs.LineLaws.{Framed-same, Framed-more, Lined-Framed}
 use Rattle.table.proofs.StepLaws.{begun_Lined}
 use Rattle.table.proofs.CloseLaws.{Close}
 use Rattle.table.proofs.PhaseLaws.{Ready-Reached}
@@ -89,28 +89,42 @@ module _ (ws : List ℕ) (d : ℕ) (ps : List ℕ) where
       rw (ap (λ (l : Line). l.pair) (Laid-Line b (index_in us u) h), e) (Close-fresh (λ a. In a (arcs_of ls)) d S settled.marked u)
 
   -- the phases ask no more than they keep
-  module _ {t u : List ℕ} (r : Ready ws ps (length us - 1) t) (p : Phased ls ps (length us - 1) t u) where
-    after_one : Ready ws ps (length us - 1) p.first × Framed (length us) t p.first
-    after_one = Ready-Reached r p.one.reached
+  module _ {t : List ℕ} (r : Ready ws ps (length us - 1) t) where
+    phased_kept : {g : ℕ} {u : List ℕ} → Phased ls ps (length us - 1) t g u → Ready ws ps (length us - 1) u × Framed (length us) t u
+    phased_kept first_phase = (r, Framed-same t)
+    phased_kept (next_phase f g u v p s e) =
+        let k = phased_kept p in
+        let m = Ready-Reached k.0 s.reached in
+        (m.0, Framed-more k.1 m.1)
 
-    after_two : Ready ws ps (length us - 1) p.second × Framed (length us) p.first p.second
-    after_two = Ready-Reached after_one.0 p.two.reached
+    phased_low : {g : ℕ} {u : List ℕ} → Phased ls ps (length us - 1) t g u → 1 ≤ g
+    phased_low first_phase = omega arith
+    phased_low (next_phase f g u v p s e) = omega arith
 
-    after_three : Ready ws ps (length us - 1) u × Framed (length us) p.second u
-    after_three = Ready-Reached after_two.0 p.three.reached
+    phased_near : {g : ℕ} {u : List ℕ} → Phased ls ps (length us - 1) t g u → g ≤ 3 → Near S d 1 us t → Near S d g us u
+    phased_near first_phase l near = near
+    phased_near (next_phase f g u v p s e) l near =
+        let next : suc f ≡ g = omega arith in
+        rw next at
+        (near_next ls ps r.placed d (length us - 1) S settled.marked short f (phased_low p) u v (phased_kept p).0.room s (omega arith)
+        (phased_near p (omega arith) near))
 
-    pub phased_Ready : Ready ws ps (length us - 1) u
-    phased_Ready = after_three.0
+    phased_last : {g : ℕ} {u : List ℕ} → Phased ls ps (length us - 1) t g u → g ≡ 4 → Near S d 1 us t
+        → (v : ℕ) → In v us → entry_pair u (index_in us v) ≡ (S v).pair
+    phased_last first_phase h near = absurd (omega arith)
+    phased_last (next_phase f g u v p s e) h near =
+        near_last ls ps r.placed d (length us - 1) S settled.marked short f (phased_low p) u v (phased_kept p).0.room s (omega arith)
+        (phased_near p (omega arith) near)
 
-    pub phased_Framed : Framed (length us) t u
-    phased_Framed = Framed-more (Framed-more after_one.1 after_two.1) after_three.1
+    module _ {u : List ℕ} (p : Phased ls ps (length us - 1) t 4 u) where
+      pub phased_Ready : Ready ws ps (length us - 1) u
+      phased_Ready = (phased_kept p).0
 
-    phased_pairs : Near S d 1 us t → (v : ℕ) → In v us → entry_pair u (index_in us v) ≡ (S v).pair
-    phased_pairs near =
-        let one = near_next ls ps r.placed d (length us - 1) S settled.marked short 1 (omega arith) t p.first r.room p.one (omega arith) near in
-        let two = near_next ls ps r.placed d (length us - 1) S settled.marked short 2 (omega arith) p.first p.second
-        after_one.0.room p.two (omega arith) one in
-        near_last ls ps r.placed d (length us - 1) S settled.marked short 3 (omega arith) p.second u after_two.0.room p.three refl two
+      pub phased_Framed : Framed (length us) t u
+      phased_Framed = (phased_kept p).1
+
+      phased_pairs : Near S d 1 us t → (v : ℕ) → In v us → entry_pair u (index_in us v) ≡ (S v).pair
+      phased_pairs = phased_last p refl
 
   -- the election over these pairs
   module _ (t : List ℕ) (room : 4 * length us ≤ length t) (number : (i : ℕ) → i < length us → number_word t i ≡ get_or us i 0)
@@ -129,7 +143,7 @@ module _ (ws : List ℕ) (d : ℕ) (ps : List ℕ) where
   -- Every pair is due --------------------------------------------------------------------------------------------------------
 
   module _ {old first t best : List ℕ} (beyond : List ℕ) (begun : LaidTo (fresh_lines d) us (length us) old first)
-      (ready : Ready ws ps (length us - 1) first) (phased : Phased ls ps (length us - 1) first t)
+      (ready : Ready ws ps (length us - 1) first) (phased : Phased ls ps (length us - 1) first 4 t)
       (elected : best ≡ table_of (offers_to ls t (length us)) us ++ beyond) where
     number : (i : ℕ) → i < length us → number_word t i ≡ get_or us i 0
     number i h = (phased_Framed ready phased).number i ∙ laid_number begun i h
@@ -148,11 +162,11 @@ module _ (ws : List ℕ) (d : ℕ) (ps : List ℕ) where
         (ap (λ (b : List ℕ). entry_pair b i) elected ∙ ap (λ (l : Line). l.pair) (table_line (offers_to ls t (length us)) beyond us i h)
         ∙ ap (λ (l : Line). l.pair) (offers_due t (phased_Ready ready phased).room number pairs (get_or us i 0) ne))
 
-    pub phased_Agreed : {list : List ℕ} → take (length us) list ≡ us → 4 * length us ≤ length old → Agreed ls d list (length us) old t best
-    phased_Agreed {list} listed room =
+    pub phased_Agreed : 4 * length us ≤ length old → Agreed ls d us old t best
+    phased_Agreed room =
         record {
-          lined = Lined-Framed (begun_Lined d begun list listed room) (phased_Framed ready phased);
+          lined = Lined-Framed (begun_Lined d begun room) (phased_Framed ready phased);
           beyond = beyond;
           elected = elected;
-          agrees = λ i h. due_pair i h (ℕ_discrete (get_or us i 0) d) ∙ sym (pair_at_lem i h);
+          agrees = λ i h. record { pair = due_pair i h (ℕ_discrete (get_or us i 0) d) ∙ sym (pair_at_lem i h) };
         }

@@ -4,16 +4,12 @@ use mathlib.Core.Path.{◌≡◌, sym, ◌∙◌, ap}
 use mathlib.Core.List.{List, ◌++◌}
 use native.Mathlib.Omega.{arith}
 use native.Mathlib.Decide.{ℕ_discrete, dec_le}
-use lib.ListN.{length, get_or, take, drop, length-append, length-drop}
-use lib.Seq.{ext_get_or, get_or-take}
+use lib.ListN.{length, get_or, drop, length-append, length-drop}
+use lib.Seq.{ext_get_or}
 use Rattle.rules.specs.Stable.{Line, Routing, table_of}
 use Rattle.rules.proofs.LineLaws.{table_length, table_beyond}
 use Rattle.offers.specs.Lines.{number_word, entry_line}
 use Rattle.offers.proofs.TableLaws.{table_number, table_line}
-
--- the first words of a list, which are another list
-pub list_at : (list us : List ℕ) → take (length us) list ≡ us → (i : ℕ) → i < length us → get_or list i 0 ≡ get_or us i 0
-list_at list us e i h = sym (get_or-take (length us) list i 0 h) ∙ ap (λ (l : List ℕ). get_or l i 0) e
 
 module _ (n : ℕ) (t u : List ℕ) (number : (i : ℕ) → i < n → number_word t i ≡ number_word u i) (line : (i : ℕ) → i < n → entry_line t i ≡ entry_line u i) where
   -- a word of entry i

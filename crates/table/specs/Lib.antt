@@ -1,4 +1,6 @@
 pub mod Entries
 pub mod Guess
+pub mod GuessSteps
 pub mod Phases
+pub mod PhaseSteps
 pub mod Steps

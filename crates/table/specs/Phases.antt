@@ -8,7 +8,7 @@
 --   CalmBelow way f cap k t   none of the first k ways gives more
 --   weight, height     what an entry, and the first n entries, can still fall by
 --   Ready ws ps cap t  what a phase asks: places of the links' ends, and a table of their ASes with no length above the cap
---   Passed, Settled, Phased   what a pass, a phase, and all three leave
+--   Passed, Settled, Phased   what a pass, a phase, and all phases below one leave
 use Rattle.std.specs.Prelude.{ℕ, zero, suc, ◌+◌, ◌*◌, ◌≤◌, ◌<◌, ◌≡◌, Bool, true, false, cond, ◌&&◌, List, leb, eqb, length}
 use Rattle.rules.specs.declared.TypeLength.{TypeLength}
 use Rattle.rules.specs.declared.Link.{Link}
@@ -93,10 +93,7 @@ pub record Settled (ls : List Link) (ps : List ℕ) (f cap : ℕ) (t u : List �
   pub reached : Reached (way_of_direction ls ps) (2 * length ls) f cap t u
   pub calm : CalmBelow (way_of_direction ls ps) f cap (2 * length ls) u
 
--- table u after the three phases, from t
-pub record Phased (ls : List Link) (ps : List ℕ) (cap : ℕ) (t u : List ℕ) : Type 0 where
-  pub first : List ℕ
-  pub second : List ℕ
-  pub one : Settled ls ps 1 cap t first
-  pub two : Settled ls ps 2 cap first second
-  pub three : Settled ls ps 3 cap second u
+-- table u after the phases below f, from t
+pub data Phased (ls : List Link) (ps : List ℕ) (cap : ℕ) (t : List ℕ) : ℕ → List ℕ → Type 0 where
+  first_phase : Phased ls ps cap t 1 t
+  next_phase : (f g : ℕ) (u v : List ℕ) → Phased ls ps cap t f u → Settled ls ps f cap u v → g ≡ f + 1 → Phased ls ps cap t g v

@@ -1,4 +1,5 @@
 // Next hops, taken over from the table of best offers.
+// Kept: n beside the table, whose words beyond 4n stay, as in `offers`.
 ghost use Rattle.std.specs.Prelude.{◌+◌, ◌*◌, ◌≤◌, ◌≡◌, length};
 ghost use Rattle.table.specs.Steps.{due_hop, Hopped};
 
@@ -18,11 +19,9 @@ pub fn take_hops(table: &mut [u32], best: &[u32], n: usize, destination: u32)
     requires { (4 * n ≤ length table.old) × (4 * n ≤ length best.now) }
     ensures { Hopped destination best.now n table.old table.new }
 {
-    let mut i = 0;
-    while i < n {
+    for i in 0..n {
         let pair = offers::pair_at(table, i);
         let next = hop_of(table, best, i, destination);
         offers::put_line(table, i, pair, next);
-        i += 1;
     }
 }

@@ -1,38 +1,64 @@
-// What a guess (quick.rt) notes in scratch memory: links in an index, and ASes that wait on a shelf to tell what they have.
-ghost use Rattle.std.specs.Prelude.{◌<◌};
-ghost use Rattle.network.specs.Promises.{HasLink};
-ghost use Rattle.table.specs.Guess.{Guessing};
+// What a guess (quick.rt) notes in scratch memory: links in an index, and ASes that wait on a shelf to tell what they have. A link or an
+// AS is marked there by one more than its number, so that 0 is none.
+// Kept: marks in memory, since scratch memory is words; what reads them gives an Option or an iterator.
+ghost use Rattle.std.specs.Prelude.{◌<◌, IfSome};
+ghost use Rattle.std.specs.Iterator.{at_most};
+ghost use Rattle.network.specs.Promises.{count_of};
 
+use network::Network;
 use offers::scratch;
-use rules::TypeLength;
 
-// The ends of a provider link, by their words among the places: its provider stands first.
-pub const PROVIDER: usize = 0;
+// The passes over provider links: up, providers hear their customers, and down, customers hear their providers.
+#[derive(Clone, Copy, Debug, PartialEq, Eq)]
+pub enum Pass {
+    Up,
+    Down,
+}
 
-pub const CUSTOMER: usize = 1;
+impl Pass {
+    // The end of a provider link that hears, by its word among the places: the provider stands first.
+    pub fn hearer(self) -> usize
+        ensures { result < 2 }
+    {
+        match self {
+            Pass::Up => 0,
+            Pass::Down => 1,
+        }
+    }
+
+    // The end that tells.
+    fn teller(self) -> usize
+        ensures { result < 2 }
+    {
+        1 - self.hearer()
+    }
+
+    // The type of the lines that are heard.
+    pub fn typ(self) -> u32 {
+        match self {
+            Pass::Up => 1,
+            Pass::Down => 3,
+        }
+    }
+}
 
 // The index (offers::scratch) notes links. Its heads: by places the provider links over which the AS there tells, and all peer links.
-pub const HEADS: usize = 1536;
+const HEADS: usize = 1536;
 
 pub const PEERS: usize = 2048;
 
-// The other end of a provider link.
-fn other(end: usize) -> usize
-    ensures { result < 2 }
-{
-    if end == PROVIDER {
-        return CUSTOMER;
-    }
-    PROVIDER
+// The head of the links over which the AS at a place tells.
+pub fn head_of(place: u32) -> usize {
+    scratch::head_of(HEADS, place)
 }
 
-// Link i, over which one end of a provider link hears. The head is chosen first, so that no branch hangs on the relation.
-fn note_link(words: &[u32], places: &[u32], index: &mut [u32], hearer: usize, i: usize)
-    requires { HasLink words.now i × (i < 1536) }
+// Link i, for a pass. The head is chosen first, so that no branch hangs on the relation.
+fn note_link(network: Network<'_>, places: &[u32], index: &mut [u32], pass: Pass, i: usize)
+    requires { i < count_of network.words.now }
 {
-    let teller = scratch::at(places, 2 * i + other(hearer));
-    let head = if network::link_at(words, i).relation == 1 {
-        scratch::head_of(HEADS, teller)
+    let teller = scratch::at(places, 2 * i + pass.teller());
+    let head = if network::link_at(network.words, i).relation == 1 {
+        head_of(teller)
     } else {
         PEERS
     };
@@ -40,25 +66,60 @@ fn note_link(words: &[u32], places: &[u32], index: &mut [u32], hearer: usize, i:
 }
 
 // All links, those with smaller places first.
-pub fn note_links(words: &[u32], places: &[u32], index: &mut [u32], hearer: usize) {
-    let m = scratch::indexed(words);
-    let mut i = 0;
-    while i < m {
-        note_link(words, places, index, hearer, i);
-        i += 1;
+pub fn note_links(network: Network<'_>, places: &[u32], index: &mut [u32], pass: Pass) {
+    for i in 0..network.links() {
+        note_link(network, places, index, pass, i);
     }
 }
 
-// Where an end of a noted link stands.
-pub fn place_of(places: &[u32], noted: u32, end: usize) -> u32
-    requires { (0 < noted) × (end < 2) }
-{
-    scratch::at(places, 2 * ((noted - 1) as usize) + end)
+// The links under a head of the index, from the one that was noted last.
+#[derive(Clone, Copy, Debug)]
+pub struct Noted<'a> {
+    index: &'a [u32],
+    mark: u32,
 }
 
-// ASes wait on a shelf, in a stack for each length. An AS is marked by one more than its place, so that 0 is none. Words to ASES: the
-// mark on top, by length. Words past the one there, which stays 0: the mark below, by place.
-pub fn push(shelf: &mut [u32], mark: u32, length: usize) {
+impl<'a> Noted<'a> {
+    pub fn under(index: &'a [u32], head: usize) -> Noted<'a> {
+        Noted {
+            index,
+            mark: scratch::at(index, head),
+        }
+    }
+}
+
+impl<'a> Iterator for Noted<'a> {
+    type Item = u32;
+
+    ghost remaining = { λ s. at_most s.mark };
+
+    fn next(&mut self) -> Option<u32> {
+        let link = self.mark.checked_sub(1)?;
+        self.mark = scratch::noted_before(self.index, self.mark);
+        Some(link)
+    }
+}
+
+// Where an end of a link stands.
+pub fn place_of(places: &[u32], link: u32, end: usize) -> u32
+    requires { end < 2 }
+{
+    scratch::at(places, 2 * (link as usize) + end)
+}
+
+// ASes wait on a shelf, in a stack for each length. Words to ASES: the mark on top, by length. Words past the one there, which stays 0:
+// the mark below, by place.
+
+// Whether none waits with a length.
+pub fn is_empty(shelf: &[u32], length: usize) -> bool {
+    scratch::at(shelf, length) == 0
+}
+
+// The AS at a place waits with a length.
+pub fn push(shelf: &mut [u32], place: u32, length: usize)
+    requires { place < 4294967295 }
+{
+    let mark = place + 1;
     scratch::put(
         shelf,
         scratch::ASES + (mark as usize),
@@ -67,33 +128,14 @@ pub fn push(shelf: &mut [u32], mark: u32, length: usize) {
     scratch::put(shelf, length, mark);
 }
 
-// The mark on top of a stack, taken off.
-pub fn pop(shelf: &mut [u32], length: usize) -> u32 {
+// The place of the AS that waited last with a length, which waits no more.
+pub fn pop(shelf: &mut [u32], length: usize) -> Option<u32> {
     let mark = scratch::at(shelf, length);
+    let place = mark.checked_sub(1)?;
     scratch::put(
         shelf,
         length,
         scratch::at(shelf, scratch::ASES + (mark as usize)),
     );
-    mark
-}
-
-// The AS at place i waits, if it has a line.
-fn wait(shelf: &mut [u32], i: usize, pair: TypeLength)
-    requires { i < 4294967295 }
-{
-    if pair.typ < 4 {
-        push(shelf, (i + 1) as u32, pair.length as usize);
-    }
-}
-
-// Every AS that has a line waits to tell it.
-pub fn wait_all(table: &[u32], shelf: &mut [u32], n: usize)
-    requires { Guessing n table.now }
-{
-    let mut i = 0;
-    while i < n {
-        wait(shelf, i, offers::pair_at(table, i));
-        i += 1;
-    }
+    Some(place)
 }

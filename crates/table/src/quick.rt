@@ -1,244 +1,209 @@
 // The pairs of the table, guessed quickly: by phase, and within a phase by length. Nothing is proved of their rightness, only that
-// nothing but pairs changes: rightness rests on the election that judges them (`choose_lines` in lib.rt), and speed on this guess.
-ghost use Rattle.std.specs.Prelude.{◌*◌, ◌≤◌, ◌<◌, ◌≡◌, true, length};
+// nothing but pairs changes: rightness rests on the election that judges them (`choose_lines` in asked.rt), and speed on this guess.
+ghost use Rattle.std.specs.Prelude.{◌*◌, ◌≤◌, length};
 ghost use Rattle.table.specs.Guess.{Guessing, Guessed};
 
-use super::notes;
-use offers::scratch;
+use crate::notes;
+use crate::notes::{Noted, Pass};
+use network::Network;
 use rules::TypeLength;
 
-// Whether entry i is one of the first n and unreachable.
-fn is_open(table: &[u32], i: usize, n: usize) -> bool
-    requires { 4 * n ≤ length table.now }
-    ensures { result ≡ true → i < n }
-{
-    if i < n {
-        return offers::pair_at(table, i).typ == 4;
-    }
-    false
-}
-
-// The AS at a place takes a pair if it is unreachable, and waits to tell it on.
-fn tell(table: &mut [u32], shelf: &mut [u32], hearer: u32, pair: TypeLength, n: usize)
-    requires { Guessing n table.old × (pair.length < n) }
-    ensures { Guessed n table.old table.new }
-{
-    let i = hearer as usize;
-    if is_open(table, i, n) {
-        let next = offers::next_at(table, i);
-        offers::put_line(table, i, pair, next);
-        notes::push(shelf, hearer + 1, pair.length as usize);
-    }
-}
-
-// The AS under a head tells a pair over its links to their hearers.
-fn tell_over(
-    places: &[u32],
-    index: &[u32],
-    table: &mut [u32],
-    shelf: &mut [u32],
-    head: usize,
-    hearer: usize,
-    pair: TypeLength,
+// A guess at work: where the ends of the links stand, the links that are noted for its pass, the table with its first n entries, and
+// the ASes that wait to tell.
+// Kept: n beside the table, whose words beyond 4n stay: an index is then tested by one comparison, and no length is divided by four.
+#[derive(Drop)]
+struct Guess<'a> {
+    places: &'a [u32],
+    index: &'a [u32],
+    table: &'a mut [u32],
+    shelf: &'a mut [u32],
     n: usize,
-)
-    requires { Guessing n table.old × (pair.length < n) × (hearer < 2) }
-    ensures { Guessed n table.old table.new }
-{
-    let mut noted = scratch::at(index, head);
-    while 0 < noted {
-        tell(
-            table,
-            shelf,
-            notes::place_of(places, noted, hearer),
-            pair,
-            n,
-        );
-        noted = scratch::noted_before(index, noted);
-    }
+    pass: Pass,
+    ghost guessing: { Guessing n table.now },
 }
 
-// What the AS at a place tells over links of a kind that its line goes on over.
-fn told(table: &[u32], i: usize, kind: u32, n: usize) -> TypeLength
-    requires { Guessing n table.now }
-{
-    if i < n {
-        return TypeLength {
-            typ: kind,
-            length: offers::pair_at(table, i).length + 1,
+impl<'a> Guess<'a> {
+    ghost use Rattle.std.specs.Prelude.{◌<◌, ◌≡◌, IfSome};
+    ghost use Rattle.offers.specs.Lines.{entry_pair, next_word};
+    ghost use Rattle.table.specs.GuessSteps.{Keeps};
+
+    // The pair of the AS at a place.
+    fn pair_at(&self, place: usize) -> TypeLength
+        requires { place < self.now.n }
+        ensures { result ≡ entry_pair self.now.table.now place }
+    {
+        offers::pair_at(self.table, place)
+    }
+
+    // Its next hop.
+    fn next_at(&self, place: usize) -> u32
+        requires { place < self.now.n }
+        ensures { result ≡ next_word self.now.table.now place }
+    {
+        offers::next_at(self.table, place)
+    }
+
+    // Whether no AS waits with a length.
+    fn nobody_waits(&self, length: usize) -> bool {
+        notes::is_empty(self.shelf, length)
+    }
+
+    // What the AS at a place tells as a line of a type: one longer than its own, as far as lengths stay below n.
+    fn told(&self, teller: usize, typ: u32) -> Option<TypeLength>
+        ensures { IfSome result (λ pair. (teller < self.now.n) × (pair.length < self.now.n)) }
+    {
+        if teller < self.n {
+            let length = self.pair_at(teller).length + 1;
+            if (length as usize) < self.n {
+                return Some(TypeLength { typ, length });
+            }
+        }
+        None
+    }
+
+    // The AS at a place takes a pair.
+    fn take(&mut self, place: usize, pair: TypeLength)
+        requires { (place < self.old.n) × (pair.length < self.old.n) }
+        ensures { Keeps self.old self.new }
+    {
+        let next = self.next_at(place);
+        offers::put_line(self.table, place, pair, next);
+    }
+
+    // It takes a pair if it is unreachable, and waits to tell it on.
+    #[tactic(auto, using(crate::proofs::GuessLaws::guess_steps))]
+    fn tell(&mut self, hearer: u32, pair: TypeLength)
+        requires { pair.length < self.old.n }
+        ensures { Keeps self.old self.new }
+    {
+        let place = hearer as usize;
+        if place < self.n && self.pair_at(place).typ == 4 {
+            self.take(place, pair);
+            notes::push(self.shelf, hearer, pair.length as usize);
+        }
+    }
+
+    // The AS at a place tells what it has to the hearers of its links.
+    #[tactic(auto, using(crate::proofs::GuessLaws::guess_steps))]
+    fn tell_from(&mut self, teller: u32)
+        ensures { Keeps self.old self.new }
+    {
+        let Some(pair) = self.told(teller as usize, self.pass.typ()) else {
+            return;
         };
-    }
-    TypeLength::UNREACHABLE
-}
-
-// The AS with this mark tells what it has over its links of a kind.
-fn tell_from(
-    places: &[u32],
-    index: &[u32],
-    table: &mut [u32],
-    shelf: &mut [u32],
-    mark: u32,
-    hearer: usize,
-    kind: u32,
-    n: usize,
-)
-    requires { Guessing n table.old × (0 < mark) × (hearer < 2) }
-    ensures { Guessed n table.old table.new }
-{
-    let teller = mark - 1;
-    let pair = told(table, teller as usize, kind, n);
-    if (pair.length as usize) < n {
-        let head = scratch::head_of(notes::HEADS, teller);
-        tell_over(places, index, table, shelf, head, hearer, pair, n);
-    }
-}
-
-// The ASes of a length tell, at most n of them.
-fn tell_length(
-    places: &[u32],
-    index: &[u32],
-    table: &mut [u32],
-    shelf: &mut [u32],
-    length: usize,
-    hearer: usize,
-    kind: u32,
-    n: usize,
-)
-    requires { Guessing n table.old × (hearer < 2) }
-    ensures { Guessed n table.old table.new }
-{
-    let mut left = n;
-    while 0 < left {
-        let mark = notes::pop(shelf, length);
-        if mark == 0 {
-            return;
+        let (places, end) = (self.places, self.pass.hearer());
+        for link in Noted::under(self.index, notes::head_of(teller)) {
+            self.tell(notes::place_of(places, link, end), pair);
         }
-        tell_from(places, index, table, shelf, mark, hearer, kind, n);
-        left -= 1;
     }
-}
 
-// All that is told over links of a kind, from short lengths to long ones, as far as somebody waits: lengths have no gaps.
-fn guess_over(
-    places: &[u32],
-    index: &[u32],
-    table: &mut [u32],
-    shelf: &mut [u32],
-    hearer: usize,
-    kind: u32,
-    n: usize,
-)
-    requires { Guessing n table.old × (hearer < 2) }
-    ensures { Guessed n table.old table.new }
-{
-    notes::wait_all(table, shelf, n);
-    let mut length = 0;
-    while length < n {
-        if scratch::at(shelf, length) == 0 {
-            return;
+    // The ASes that wait with a length tell, at most n of them.
+    #[tactic(auto, using(crate::proofs::GuessLaws::guess_steps))]
+    fn tell_length(&mut self, length: usize)
+        ensures { Keeps self.old self.new }
+    {
+        for _ in 0..self.n {
+            let Some(teller) = notes::pop(self.shelf, length) else {
+                return;
+            };
+            self.tell_from(teller);
         }
-        tell_length(places, index, table, shelf, length, hearer, kind, n);
-        length += 1;
     }
-}
 
-// The AS at one place hears its peer at another, which tells a customer route alone.
-fn hear_peer(table: &mut [u32], hearer: u32, teller: u32, n: usize)
-    requires { Guessing n table.old }
-    ensures { Guessed n table.old table.new }
-{
-    let pair = told(table, teller as usize, 2, n);
-    let i = hearer as usize;
-    if takes(table, i, teller as usize, pair, n) {
-        let next = offers::next_at(table, i);
-        offers::put_line(table, i, pair, next);
-    }
-}
-
-// Whether entry i takes a pair that another tells as a customer route.
-fn takes(table: &[u32], i: usize, teller: usize, pair: TypeLength, n: usize) -> bool
-    requires { 4 * n ≤ length table.now }
-    ensures { result ≡ true → (i < n) × (pair.length < n) }
-{
-    if i < n {
-        if teller < n {
-            if (pair.length as usize) < n {
-                return (offers::pair_at(table, teller).typ == 1)
-                    & pair.beats(offers::pair_at(table, i));
+    // Every AS that has a line waits to tell it.
+    #[tactic(auto, using(crate::proofs::GuessLaws::guess_steps))]
+    fn wait_all(&mut self)
+        ensures { Keeps self.old self.new }
+    {
+        for i in 0..self.n {
+            let pair = self.pair_at(i);
+            if pair.typ < 4 {
+                notes::push(self.shelf, i as u32, pair.length as usize);
             }
         }
     }
-    false
-}
 
-// Both ends of a noted peer link hear each other.
-fn hear_both(places: &[u32], table: &mut [u32], noted: u32, n: usize)
-    requires { Guessing n table.old × (0 < noted) }
-    ensures { Guessed n table.old table.new }
-{
-    let a = notes::place_of(places, noted, 0);
-    let b = notes::place_of(places, noted, 1);
-    hear_peer(table, a, b, n);
-    hear_peer(table, b, a, n);
-}
+    // All that is told over the links of the pass, from short lengths to long ones, as far as somebody waits: lengths have no gaps.
+    #[tactic(auto, using(crate::proofs::GuessLaws::guess_steps))]
+    fn tell_all(&mut self)
+        ensures { Keeps self.old self.new }
+    {
+        self.wait_all();
+        for length in 0..self.n {
+            if self.nobody_waits(length) {
+                return;
+            }
+            self.tell_length(length);
+        }
+    }
 
-// Those of all peer links.
-fn hear_peers(places: &[u32], index: &[u32], table: &mut [u32], n: usize)
-    requires { Guessing n table.old }
-    ensures { Guessed n table.old table.new }
-{
-    let mut noted = scratch::at(index, notes::PEERS);
-    while 0 < noted {
-        hear_both(places, table, noted, n);
-        noted = scratch::noted_before(index, noted);
+    // The AS at one place hears its peer at another, which tells a customer route alone.
+    #[tactic(auto, using(crate::proofs::GuessLaws::guess_steps))]
+    fn hear_peer(&mut self, hearer: usize, teller: usize)
+        ensures { Keeps self.old self.new }
+    {
+        let Some(pair) = self.told(teller, 2) else {
+            return;
+        };
+        if hearer < self.n {
+            let told = self.pair_at(teller).typ == 1;
+            if told & pair.beats(self.pair_at(hearer)) {
+                self.take(hearer, pair);
+            }
+        }
+    }
+
+    // The ends of all peer links hear each other.
+    #[tactic(auto, using(crate::proofs::GuessLaws::guess_steps))]
+    fn hear_peers(&mut self)
+        ensures { Keeps self.old self.new }
+    {
+        for link in Noted::under(self.index, notes::PEERS) {
+            let a = notes::place_of(self.places, link, 0) as usize;
+            let b = notes::place_of(self.places, link, 1) as usize;
+            self.hear_peer(a, b);
+            self.hear_peer(b, a);
+        }
     }
 }
 
-// All that is told over customer links, and then over peer links.
-fn guess_up(words: &[u32], places: &[u32], table: &mut [u32], n: usize)
+// All that is told over customer links, and then over peer links; or all that is told over provider links.
+fn guess_pass(network: Network<'_>, places: &[u32], table: &mut [u32], n: usize, pass: Pass)
     requires { Guessing n table.old }
     ensures { Guessed n table.old table.new }
 {
     let mut index = [0u32; 2049];
     let mut shelf = [0u32; 1025];
-    notes::note_links(words, places, &mut index, notes::PROVIDER);
-    guess_over(places, &index, table, &mut shelf, notes::PROVIDER, 1, n);
-    hear_peers(places, &index, table, n);
+    notes::note_links(network, places, &mut index, pass);
+    let mut guess = Guess {
+        places,
+        index: &index,
+        table,
+        shelf: &mut shelf,
+        n,
+        pass,
+    };
+    guess.tell_all();
+    if pass == Pass::Up {
+        guess.hear_peers();
+    }
 }
 
 // Whether one of the first n entries is unreachable.
 fn any_open(table: &[u32], n: usize) -> bool
     requires { 4 * n ≤ length table.now }
 {
-    let mut i = 0;
-    while i < n {
-        if is_open(table, i, n) {
-            return true;
-        }
-        i += 1;
-    }
-    false
-}
-
-// All that is told over provider links.
-fn guess_down(words: &[u32], places: &[u32], table: &mut [u32], n: usize)
-    requires { Guessing n table.old }
-    ensures { Guessed n table.old table.new }
-{
-    let mut index = [0u32; 2049];
-    let mut shelf = [0u32; 1025];
-    notes::note_links(words, places, &mut index, notes::CUSTOMER);
-    guess_over(places, &index, table, &mut shelf, notes::CUSTOMER, 3, n);
+    (0..n).any(|i| offers::pair_at(table, i).typ == 4)
 }
 
 // The pairs of all n lines, from those that are there: over customer links, then peer links, then provider links, if somebody is left to
 // hear of them.
-pub fn guess(words: &[u32], places: &[u32], table: &mut [u32], n: usize)
+pub fn guess_pairs(network: Network<'_>, places: &[u32], table: &mut [u32], n: usize)
     requires { Guessing n table.old }
     ensures { Guessed n table.old table.new }
 {
-    guess_up(words, places, table, n);
+    guess_pass(network, places, table, n, Pass::Up);
     if any_open(table, n) {
-        guess_down(words, places, table, n);
+        guess_pass(network, places, table, n, Pass::Down);
     }
 }
