@@ -5,8 +5,8 @@
 --   fault_of_network, fault_of_memory  what is left of the verdict: 7, 8 and 13; 8 and 13
 --   NetworkAnswer, MemoryAnswer, RunAnswer   what is left to answer
 --   Looking, Located, Driving   an accepted list of links; with the destination's place; with memory and choices that pass
---   Driven ws m place cs n t c t' r' f'   table and room hold the whole run, which c counts
-use Rattle.std.specs.Prelude.{ℕ, ◌*◌, ◌≤◌, ◌<◌, ◌≡◌, List, length, get_or, take, drop}
+--   Driven ws m place cs n t c q t' r'   table and room hold the whole run, which c counts, and after which q says whether nothing waits
+use Rattle.std.specs.Prelude.{ℕ, Bool, ◌*◌, ◌≤◌, ◌<◌, ◌≡◌, List, length, get_or, take, drop}
 use Rattle.rules.specs.declared.Limits.{Limits}
 use Rattle.rules.specs.declared.Verdict.{Verdict}
 use Rattle.rules.specs.declared.Verdict.TheVariants.{Passes}
@@ -14,10 +14,11 @@ use Rattle.rules.specs.Network.{links_of, ases_of}
 use Rattle.rules.specs.Checks.{needed_room}
 use Rattle.rules.specs.Entry.{and_then, fault_of_destination, fault_of_output, fault_of_room, cleared, filled}
 use Rattle.rules.specs.Stable.{table_of}
+use Rattle.rules.specs.Machine.{lowest, is_quiet}
 use Rattle.machine.specs.declared.Ran.{Ran}
 use Rattle.machine.specs.declared.Counts.{Counts}
 use Rattle.machine.specs.Entries.{fault_of_choices, run_on, reply_run, run_reply, final_table, final_room}
-use Rattle.machine.specs.Room.{ases_in, as_at, Flagged, Laid}
+use Rattle.machine.specs.Room.{net_of, ases_in, as_at}
 use Rattle.machine.specs.Runs.{Reached}
 use Rattle.machine.specs.Start.{Starting}
 
@@ -62,13 +63,12 @@ pub record Located (ws list : List ℕ) (most place : ℕ) (cs : List ℕ) (n : 
   pub count : most ≡ ases_in ws
   pub destination : place < most
 
-pub record Driving (ws : List ℕ) (m : ℕ) (list : List ℕ) (most place : ℕ) (cs : List ℕ) (n : ℕ) (t r : List ℕ) : Type 0 where
-  pub starting : Starting ws m list most place t r
+pub record Driving (ws : List ℕ) (m : ℕ) (ases : List ℕ) (place : ℕ) (cs : List ℕ) (n : ℕ) (t r : List ℕ) : Type 0 where
+  pub starting : Starting ws m ases place t r
   pub directions : (i : ℕ) → i < length cs → get_or cs i 0 < 2 * m
   pub few_choices : length cs ≤ 65536
   pub deliveries : n ≤ 65536
 
-pub record Driven (ws : List ℕ) (m place : ℕ) (cs : List ℕ) (n : ℕ) (t : List ℕ) (c : Counts) (t' r' f' : List ℕ) : Type 0 where
-  pub laid : Laid ws m t' r'
-  pub flagged : Flagged m r' f'
+pub record Driven (ws : List ℕ) (m place : ℕ) (cs : List ℕ) (n : ℕ) (t : List ℕ) (c : Counts) (quiet : Bool) (t' r' : List ℕ) : Type 0 where
   pub reached : Reached ws m place (drop (4 * ases_in ws) t) (run_on ws (as_at ws place) cs n) c t' r'
+  pub waits_not : quiet ≡ is_quiet (lowest (net_of ws) (run_on ws (as_at ws place) cs n).state.waiting)

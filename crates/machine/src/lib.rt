@@ -6,12 +6,12 @@ ghost use Rattle.machine.specs.Answers.{Answered};
 
 use rules::{Checked, Refusal};
 
-mod blocks;
 mod index;
 mod look;
 mod room;
 mod runs;
 mod start;
+mod state;
 mod steps;
 
 // What a run gives: deliveries made, idle choices, quiet or not; or a refusal.

@@ -3,10 +3,11 @@ ghost use Rattle.std.specs.Prelude.{◌≡◌, length};
 ghost use Rattle.machine.specs.Entries.{fault_of_choices};
 ghost use Rattle.machine.specs.Answers.{NetworkAnswer, MemoryAnswer, RunAnswer, Looking, Located, Driving, Driven};
 
-use super::{Counts, Ran, blocks, room, runs, start};
+use super::state::{BLOCKS, Machine};
+use super::{Counts, Ran, room, start};
 use network::{Place, WORDS_PER_LINK};
 use offers::WORDS_PER_ENTRY;
-use rules::{Refusal, Verdict};
+use rules::{Refusal, TypeLength, Verdict};
 
 // Refusal 13: the first choice that is no direction.
 fn choice_fault(choices: &[u32], directions: usize) -> Verdict
@@ -14,7 +15,7 @@ fn choice_fault(choices: &[u32], directions: usize) -> Verdict
 {
     let mut i = 0;
     while i < choices.len() {
-        if directions <= room::wide(choices[i]) {
+        if directions <= choices[i] as usize {
             return Verdict::Refused(Refusal::NoDirection(i));
         }
         i += 1;
@@ -22,56 +23,50 @@ fn choice_fault(choices: &[u32], directions: usize) -> Verdict
     Verdict::Passes
 }
 
-// The run of an input that passes: the fresh start, the choices, the further deliveries.
+// The run of an input that passes: the fresh start, the choices, the further deliveries. What was counted, and whether nothing waits.
 fn drive(
     words: &[u32],
     m: usize,
-    list: &[u32],
-    n: usize,
+    ases: &[u32],
     destination: usize,
     choices: &[u32],
     further: u32,
     table: &mut [u32],
     room: &mut [u32],
-    flags: &mut [u32; 64],
-) -> Counts
-    requires { Driving words.now m list.now n destination choices.now further table.old room.old × (length flags.old ≡ 64) }
-    ensures { Driven words.now m destination choices.now further table.old result table.new room.new flags.new }
+) -> (Counts, bool)
+    requires { Driving words.now m ases.now destination choices.now further table.old room.old }
+    ensures { Driven words.now m destination choices.now further table.old result.0 result.1 table.new room.new }
 {
-    start::fresh(words, m, list, n, destination, table, room, flags);
-    let chosen = runs::take_choices(words, m, destination, table, room, flags, choices);
-    runs::go_on(words, m, destination, table, room, flags, further, chosen)
+    start::lay_out(words, m, ases, destination, table, room);
+    let mut machine = Machine {
+        words,
+        links: m,
+        destination,
+        table,
+        room,
+        flags: [false; BLOCKS],
+    };
+    machine.send(destination, room::pack_pair(TypeLength::ORIGIN));
+    let chosen = machine.take_choices(choices);
+    let counts = machine.go_on(further, chosen);
+    (counts, machine.first_waiting().is_none())
 }
 
 // The same with its reply, and the room cleared.
 fn answer(
     words: &[u32],
     m: usize,
-    list: &[u32],
-    n: usize,
+    ases: &[u32],
     destination: usize,
     choices: &[u32],
     further: u32,
     table: &mut [u32],
     room: &mut [u32],
 ) -> Ran
-    requires { Driving words.now m list.now n destination choices.now further table.old room.old }
+    requires { Driving words.now m ases.now destination choices.now further table.old room.old }
     ensures { RunAnswer words.now destination choices.now further table.old room.old result table.new room.new }
 {
-    let mut flags = [0u32; 64];
-    let counts = drive(
-        words,
-        m,
-        list,
-        n,
-        destination,
-        choices,
-        further,
-        table,
-        room,
-        &mut flags,
-    );
-    let quiet = blocks::first_waiting(room, &mut flags, m) == 2 * m;
+    let (counts, quiet) = drive(words, m, ases, destination, choices, further, table, room);
     network::clear(room);
     Ran::Ran(counts.made, counts.idle, quiet)
 }
@@ -102,8 +97,7 @@ fn look_at_memory(
         Verdict::Passes => answer(
             words,
             m,
-            list,
-            n,
+            &list[..n],
             destination,
             choices,
             further,
