@@ -6,7 +6,6 @@
 --   held_over m r          what each arc's neighbour told, as the room holds it
 --   Heard ws m r u k o o'  of the offer o and what is held on direction k, o' is the better for the AS at place u
 --   Took m t r u old o t' r'  the AS at place u has the line of the offer o, and has told of it unless its pair was the same
---   Anew ws m t r u t' r'  the AS at place u has elected anew, and told of a change
 --   held_offer m t r k w   what is offered over direction k, which is w, with the pair that the room holds there
 --   Amended ws m k t r u t' r'  the line of the AS at place u is the one elected anew, where direction k holds another pair than before
 --   Delivered ws m d k t r t' r'  what waited on direction k was delivered, where the AS at place d is the destination
@@ -59,10 +58,6 @@ ToldUnless false m u w r r' = Sent m u w (2 * m) r r'
 pub record Took (m : ℕ) (t r : List ℕ) (u : ℕ) (old : TypeLength) (o : Offered) (t' r' : List ℕ) : Type 0 where
   pub line : t' ≡ with_line t u (line_of (as_offer o))
   pub told : ToldUnless (same_as old o.pair) m u (pair_word o.pair) r r'
-
-pub record Anew (ws : List ℕ) (m : ℕ) (t r : List ℕ) (u : ℕ) (t' r' : List ℕ) : Type 0 where
-  pub after : (rest : List ℕ) (s : State) (d b : ℕ) → Holds ws m rest s t r → ((k : ℕ) → (s.held k).length ≤ b) → b + 1 < 268435456
-      → as_at ws u ≢ d → Holds ws m rest (elected (net_of ws) d (as_at ws u) s) t' r'
 
 abbrev pub held_offer : ℕ → List ℕ → List ℕ → ℕ → Way → Offered
 held_offer m t r k w = ranked_offer (extension w.kind w.cost (pair_of (held_word m r k))) (number_word t w.neighbour)

@@ -14,7 +14,7 @@ impl<'a> Machine<'a> {
         ensures stays { Stays self.old self.new }
         ensures chooses { Chooses self.old k counts self.new result }
     {
-        if room::word_at(self.room, self.links, Part::Waiting, k) == room::NOTHING {
+        if self.word(Part::Waiting, k) == room::NOTHING {
             return Counts { idle: counts.idle + 1, ..counts };
         }
         self.deliver(k);

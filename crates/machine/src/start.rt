@@ -33,7 +33,7 @@ pub fn lay_out(
     table: &mut [u32],
     room: &mut [u32],
 )
-    requires { Starting words.now m ases.now (length ases.now) destination table.old room.old }
+    requires { Starting words.now m ases.now destination table.old room.old }
     ensures { LaidOut words.now m destination table.old table.new room.new }
 {
     offers::lay_fresh_lines(table, ases, ases.len(), ases[destination]);

@@ -25,10 +25,19 @@ pub struct Machine<'a> {
 }
 
 impl<'a> Machine<'a> {
-    ghost use Rattle.std.specs.Prelude.{◌+◌, ◌*◌, ◌/◌, ◌≤◌, ◌<◌, ◌≡◌, true, length, set};
+    ghost use Rattle.std.specs.Prelude.{◌+◌, ◌*◌, ◌/◌, ◌≤◌, ◌<◌, ◌≡◌, length, get_or};
+    ghost use Rattle.machine.specs.Parts.{start_of};
     ghost use Rattle.machine.specs.Room.{ases_in};
     ghost use Rattle.machine.specs.Steps.{FirstBetween, Sent};
     ghost use Rattle.machine.specs.States.{Stays, Puts};
+
+    // Word k of a part of the room.
+    pub fn word(&self, part: Part, k: usize) -> u32
+        requires { start_of part self.now.links + k < length self.now.room.now }
+        ensures { result ≡ get_or self.now.room.now (start_of part self.now.links + k) 0 }
+    {
+        room::word_at(self.room, self.links, part, k)
+    }
 
     // The first direction of a block on which something waits.
     fn first_in(&self, block: usize) -> Option<usize>
@@ -37,13 +46,14 @@ impl<'a> Machine<'a> {
     {
         let end = (DIRECTIONS_PER_BLOCK * block + DIRECTIONS_PER_BLOCK).min(2 * self.links);
         for k in DIRECTIONS_PER_BLOCK * block..end {
-            if room::word_at(self.room, self.links, Part::Waiting, k) != room::NOTHING {
+            if self.word(Part::Waiting, k) != room::NOTHING {
                 return Some(k);
             }
         }
         None
     }
 
+    #[tactic(auto, using(crate::proofs::BlockLaws::blocks))]
     // The first direction on which something waits. A block that is found to have none loses its flag.
     pub fn first_waiting(&mut self) -> Option<usize>
         ensures stays { Stays self.old self.new }
@@ -79,10 +89,10 @@ impl<'a> Machine<'a> {
         ensures table { self.new.table.now ≡ self.old.table.now }
         ensures sent { Sent self.old.links u word (2 * self.old.links) self.old.room.now self.new.room.now }
     {
-        let mut k = room::word_at(self.room, self.links, Part::Heads, u) as usize;
+        let mut k = self.word(Part::Heads, u) as usize;
         while k < 2 * self.links {
             self.put_waiting(partner(k), word);
-            k = room::word_at(self.room, self.links, Part::Nexts, k) as usize;
+            k = self.word(Part::Nexts, k) as usize;
         }
     }
 }
