@@ -7,6 +7,6 @@ pub mod AmendLaws
 pub mod DeliverLaws
 pub mod RunLaws
 pub mod StartLaws
--- pub mod AnswerLaws
+pub mod AnswerLaws
 pub mod ReplyLaws
 pub mod QuietRuns

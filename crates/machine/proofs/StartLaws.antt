@@ -6,7 +6,7 @@ use mathlib.Core.Logic.{◌≢◌}
 use mathlib.Core.List.{List, ◌++◌}
 use native.Mathlib.Omega.{arith}
 use lib.ListN.{length, get_or, set, take, drop, length-append, length-drop, length-take, length-set}
-use lib.Seq.{take_at, get_or-take, get_or-set_same, get_or-set_other}
+use lib.Seq.{take_at, take-length}
 use borrow.Author.Count.{below_more}
 use Rattle.rules.specs.Pairs.{origin_of, unreachable_of}
 use Rattle.rules.specs.Network.{links_of, ases_of}
@@ -68,8 +68,11 @@ module _ {ws : List ℕ} {m : ℕ} {ases : List ℕ} {place : ℕ} {t r : List �
   count : length ases ≡ ases_in ws
   count = ap length g.listed
 
+  pub place_inside : place < ases_in ws
+  place_inside = omega (arith, g.destination, count)
+
   whole : take (length ases) ases ≡ ases_of (links_of ws)
-  whole = take-all ases ∙ g.listed
+  whole = take-length ases ∙ g.listed
 
   pub may_ready : Readying ws m ases (length ases) r
   may_ready =
@@ -89,7 +92,7 @@ module _ {ws : List ℕ} {m : ℕ} {ases : List ℕ} {place : ℕ} {t r : List �
               links = g.links;
               words = g.words;
               table = omega (arith, simp length-append at (ap length table_is), table_length (fresh_lines (as_at ws place)) us);
-              numbers = λ i h. rw table_is (table_number (fresh_lines (as_at ws place)) us (drop (4 * ases_in ws) t) i h);
+              numbers = λ i h. rw table_is (table_number (fresh_lines (as_at ws place)) (drop (4 * ases_in ws) t) us i h);
               room = omega (arith, ready.index.room);
               places = ready.places;
               index = ready.index;
@@ -102,7 +105,7 @@ module _ {ws : List ℕ} {m : ℕ} {ases : List ℕ} {place : ℕ} {t r : List �
       us = ases_of (links_of ws)
 
       table_is : t' ≡ table_of (fresh_lines (as_at ws place)) (ases_of (links_of ws)) ++ drop (4 * ases_in ws) t
-      table_is = lines ∙ rw (e, g.listed, take-all (ases_of (links_of ws)))
+      table_is = lines ∙ rw (e, g.listed, take-length (ases_of (links_of ws)))
 
 -- after the origin is sent
 pub LaidOut-started : {ws : List ℕ} {m place : ℕ} {t t' q v : List ℕ} {w : ℕ} → LaidOut ws m place t t' q → place < ases_in ws

@@ -13,10 +13,12 @@ use rules::{Refusal, TypeLength};
 fn choice_fault(choices: &[u32], directions: usize) -> Result<(), Refusal>
     ensures { result ≡ fault_of_choices directions choices.now }
 {
-    match choices.iter().position(|k| directions <= *k as usize) {
-        Some(i) => Err(Refusal::NoDirection(i)),
-        None => Ok(()),
+    for (i, k) in choices.iter().enumerate() {
+        if directions <= *k as usize {
+            return Err(Refusal::NoDirection(i));
+        }
     }
+    Ok(())
 }
 
 // The run of an input that passes: the fresh start, the choices, the further deliveries.
