@@ -226,10 +226,11 @@ module _ (ws : List ℕ) (d : ℕ) (cs : List ℕ) (n : ℕ) (t r : List ℕ) wh
       unfolding fault_of_run
       fault_is = rw (le-leb (length cs) 65536 few, le-leb n 65536 deliveries, check)
 
-      pub bad_links : {why : Refusal} → c ≡ Err why → Answered base_limits ws d cs n t r (Err why) t r
-      bad_links e =
-          from_Outcome (fault_is ∙ ap (λ (x : Result ℕ Refusal). and_then (verdict_of x) (fault_of_network ws d cs (length t) (length r))) e)
-          (refused ws d cs n t r refl)
+      pub bad_links : {why : Refusal} → c ≡ Err why → {out : Result Ran Refusal} → out ≡ Err why → Answered base_limits ws d cs n t r out t r
+      bad_links e o =
+          rw o
+          (from_Outcome (fault_is ∙ ap (λ (x : Result ℕ Refusal). and_then (verdict_of x) (fault_of_network ws d cs (length t) (length r))) e)
+          (refused ws d cs n t r refl))
 
       pub may_look : {known : ℕ} → c ≡ Ok known → Looking ws cs n
       may_look {known} e =

@@ -69,7 +69,16 @@ fn answer(
     requires { Driving words.now links ases.now destination choices.now further table.old room.old }
     ensures { RunAnswer words.now destination choices.now further table.old room.old (Ok result) table.new room.new }
 {
-    let ran = drive(words, links, ases, destination, choices, further, table, room);
+    let ran = drive(
+        words,
+        links,
+        ases,
+        destination,
+        choices,
+        further,
+        table,
+        room,
+    );
     room.fill(0);
     ran
 }
@@ -95,7 +104,16 @@ fn look_at_memory(
         return Err(Refusal::RoomShort);
     }
     choice_fault(choices, 2 * links)?;
-    Ok(answer(words, links, ases, destination, choices, further, table, room))
+    Ok(answer(
+        words,
+        links,
+        ases,
+        destination,
+        choices,
+        further,
+        table,
+        room,
+    ))
 }
 
 // Refusals 7, 8 and 13 of an accepted list of links. The list of ASes holds 512.

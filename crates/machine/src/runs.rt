@@ -15,10 +15,16 @@ impl<'a> Machine<'a> {
         ensures chooses { Chooses self.old k counts self.new result }
     {
         if self.word(Part::Waiting, k) == room::NOTHING {
-            return Counts { idle: counts.idle + 1, ..counts };
+            return Counts {
+                idle: counts.idle + 1,
+                ..counts
+            };
         }
         self.deliver(k);
-        Counts { made: counts.made + 1, ..counts }
+        Counts {
+            made: counts.made + 1,
+            ..counts
+        }
     }
 
     // All choices, in their order.
@@ -36,13 +42,12 @@ impl<'a> Machine<'a> {
     }
 
     // So many further deliveries, the lowest waiting direction first, or fewer where nothing waits any more.
-    pub fn go_on(&mut self, further: u32, counts: Counts) -> Counts
+    pub fn go_on(&mut self, further: u32, mut counts: Counts) -> Counts
         requires few { counts.made ≤ 65536 }
         requires deliveries { further ≤ 65536 }
         ensures stays { Stays self.old self.new }
         ensures goes_on { GoesOn self.old further counts self.new result }
     {
-        let mut counts = counts;
         for _ in 0..further {
             let Some(k) = self.first_waiting() else {
                 break;

@@ -1,5 +1,5 @@
 -- The limits and the check of the links are the first tests of the verdict; the rest is what the network's look answers.
-use Rattle.std.proofs.Common.{refl}
+use Rattle.std.proofs.Common.{refl, rules}
 use Rattle.machine.proofs.AnswerLaws.{many_choices, many_deliveries, bad_links, may_look, good_links}
 use Rattle.machine.proofs.run.Goals as goal
 
@@ -15,7 +15,7 @@ look_at_network-requires c =
     c.if-choices-gt-MOST_CHOICES.false c.if-further-gt-MOST_DELIVERIES.false c.in_ok-check_links.ensures refl
 
 pub returns-in_err-check_links : goal.returns-in_err-check_links
-returns-in_err-check_links c = bad_links _ _ _ _ _ _ c.if-choices-gt-MOST_CHOICES.false c.if-further-gt-MOST_DELIVERIES.false c.in_err-check_links.ensures refl
+returns-in_err-check_links c = bad_links _ _ _ _ _ _ c.if-choices-gt-MOST_CHOICES.false c.if-further-gt-MOST_DELIVERIES.false c.in_err-check_links.ensures refl (search rules)
 
 pub returns : goal.returns
 returns c =
