@@ -1,7 +1,7 @@
 // The refusals in their order, each before a lent word is written, and then the run.
-ghost use Rattle.std.specs.Prelude.{◌≡◌, Ok};
+ghost use Rattle.std.specs.Prelude.{◌≡◌};
 ghost use Rattle.machine.specs.Entries.{fault_of_choices};
-ghost use Rattle.machine.specs.Answers.{NetworkAnswer, MemoryAnswer, RunAnswer, Looking, Located, Driving, Driven};
+ghost use Rattle.machine.specs.Answers.{NetworkAnswer, MemoryAnswer, Looking, Located, Driving, Driven};
 
 use super::state::{BLOCKS, Machine};
 use super::{Ran, room, start};
@@ -55,34 +55,6 @@ fn drive(
     }
 }
 
-// The same, and the room cleared.
-fn answer(
-    words: &[u32],
-    links: usize,
-    ases: &[u32],
-    destination: usize,
-    choices: &[u32],
-    further: u32,
-    table: &mut [u32],
-    room: &mut [u32],
-) -> Ran
-    requires { Driving words.now links ases.now destination choices.now further table.old room.old }
-    ensures { RunAnswer words.now destination choices.now further table.old room.old (Ok result) table.new room.new }
-{
-    let ran = drive(
-        words,
-        links,
-        ases,
-        destination,
-        choices,
-        further,
-        table,
-        room,
-    );
-    room.fill(0);
-    ran
-}
-
 // Refusals 8 and 13, with the ASes and the destination's place among them.
 fn look_at_memory(
     words: &[u32],
@@ -104,7 +76,7 @@ fn look_at_memory(
         return Err(Refusal::RoomShort);
     }
     choice_fault(choices, 2 * links)?;
-    Ok(answer(
+    let ran = drive(
         words,
         links,
         ases,
@@ -113,7 +85,9 @@ fn look_at_memory(
         further,
         table,
         room,
-    ))
+    );
+    room.fill(0);
+    Ok(ran)
 }
 
 // Refusals 7, 8 and 13 of an accepted list of links. The list of ASes holds 512.
