@@ -177,7 +177,7 @@ module _ {ws ases : List ℕ} {place : ℕ} {cs : List ℕ} {n : ℕ} (g : Locat
 -- 7
 module _ {ws cs : List ℕ} {n : ℕ} (g : Looking ws cs n) {l u : List ℕ} {k : ℕ} (long : length l ≡ 512)
     (listed : Listed (ases_of (links_of ws)) l u k) where
-  fits : length (ases_of (links_of ws)) ≤ length l
+  pub fits : length (ases_of (links_of ws)) ≤ length l
   fits = omega (arith, g.few_ases)
 
   pub may_search : (k ≤ length u) × Ascending (take k u)

@@ -4,6 +4,7 @@
 ghost use Rattle.rules.specs.Checks.{base_limits};
 ghost use Rattle.machine.specs.Answers.{Answered};
 
+use network::Network;
 use rules::Refusal;
 
 mod index;
@@ -52,6 +53,6 @@ pub fn run(
     if MOST_DELIVERIES < further {
         return Err(Refusal::OverLimit);
     }
-    network::check_links(words)?;
-    look::look_at_network(words, destination, choices, further, table, room)
+    let net = Network::check(words)?;
+    look::look_at_network(net, destination, choices, further, table, room)
 }

@@ -1,11 +1,12 @@
 // The refusals in their order, each before a lent word is written, and then the run.
-ghost use Rattle.std.specs.Prelude.{◌≡◌};
+ghost use Rattle.std.specs.Prelude.{◌≡◌, ◌≤◌, length};
+ghost use Rattle.network.specs.Promises.{count_of};
 ghost use Rattle.machine.specs.Entries.{fault_of_choices};
-ghost use Rattle.machine.specs.Answers.{NetworkAnswer, MemoryAnswer, Looking, Located, Driving, Driven};
+ghost use Rattle.machine.specs.Answers.{NetworkAnswer, MemoryAnswer, Located, Driving, Driven};
 
 use super::state::{BLOCKS, Machine};
 use super::{Ran, room, start};
-use network::WORDS_PER_LINK;
+use network::Network;
 use offers::WORDS_PER_ENTRY;
 use rules::{Refusal, TypeLength};
 
@@ -23,8 +24,7 @@ fn choice_fault(choices: &[u32], directions: usize) -> Result<(), Refusal>
 
 // The run of an input that passes: the fresh start, the choices, the further deliveries.
 fn drive(
-    words: &[u32],
-    links: usize,
+    net: Network<'_>,
     ases: &[u32],
     destination: usize,
     choices: &[u32],
@@ -32,12 +32,13 @@ fn drive(
     table: &mut [u32],
     room: &mut [u32],
 ) -> Ran
-    requires { Driving words.now links ases.now destination choices.now further table.old room.old }
-    ensures { Driven words.now links destination choices.now further table.old result table.new room.new }
+    requires { Driving net.words.now (count_of net.words.now) ases.now destination choices.now further table.old room.old }
+    ensures { Driven net.entry.words.now (count_of net.entry.words.now) destination choices.now further table.old result table.new room.new }
 {
-    start::lay_out(words, links, ases, destination, table, room);
+    let links = net.links();
+    start::lay_out(net.words, links, ases, destination, table, room);
     let mut machine = Machine {
-        words,
+        words: net.words,
         links,
         destination,
         table,
@@ -57,7 +58,7 @@ fn drive(
 
 // Refusals 8 and 13, with the ASes and the destination's place among them.
 fn look_at_memory(
-    words: &[u32],
+    net: Network<'_>,
     ases: &[u32],
     destination: usize,
     choices: &[u32],
@@ -65,20 +66,19 @@ fn look_at_memory(
     table: &mut [u32],
     room: &mut [u32],
 ) -> Result<Ran, Refusal>
-    requires { Located words.now ases.now destination choices.now further }
-    ensures { MemoryAnswer words.now destination choices.now further table.old room.old result table.new room.new }
+    requires { Located net.words.now ases.now destination choices.now further }
+    ensures { MemoryAnswer net.entry.words.now destination choices.now further table.old room.old result table.new room.new }
 {
     if table.len() < WORDS_PER_ENTRY * ases.len() {
         return Err(Refusal::OutputShort);
     }
-    let links = words.len() / WORDS_PER_LINK;
+    let links = net.links();
     if room.len() < network::room_need(links, ases.len()) {
         return Err(Refusal::RoomShort);
     }
     choice_fault(choices, 2 * links)?;
     let ran = drive(
-        words,
-        links,
+        net,
         ases,
         destination,
         choices,
@@ -92,20 +92,20 @@ fn look_at_memory(
 
 // Refusals 7, 8 and 13 of an accepted list of links. The list of ASes holds 512.
 pub fn look_at_network(
-    words: &[u32],
+    net: Network<'_>,
     destination: u32,
     choices: &[u32],
     further: u32,
     table: &mut [u32],
     room: &mut [u32],
 ) -> Result<Ran, Refusal>
-    requires { Looking words.now choices.now further }
-    ensures { NetworkAnswer words.now destination choices.now further table.old room.old result table.new room.new }
+    requires { (length choices.now ≤ 65536) × (further ≤ 65536) }
+    ensures { NetworkAnswer net.entry.words.now destination choices.now further table.old room.old result table.new room.new }
 {
     let mut list = [0u32; 512];
-    let n = network::list_ases(words, &mut list);
+    let n = network::list_ases(net.words, &mut list);
     let Some(place) = network::place_of(&list, n, destination) else {
         return Err(Refusal::NoDestination);
     };
-    look_at_memory(words, &list[..n], place, choices, further, table, room)
+    look_at_memory(net, &list[..n], place, choices, further, table, room)
 }

@@ -15,4 +15,4 @@ returns c =
     let went = rw (a.words, a.links, a.destination, s.words, s.links, s.destination) at c.go_on-counts.ensures.goes_on in
     let laid = rw (g.words, g.links, a.words, a.links, s.words, s.links) at c.go_on-counts.new.self.laid in
     let first = rw (g.links, a.links, s.links) at c.first_waiting.ensures.first in
-    driven start chose went laid _ first c.is_none-quiet.ensures (search rules) (search rules)
+    rw (← c.links-links.ensures) (driven start chose went laid _ first c.is_none-quiet.ensures (search rules) (search rules))

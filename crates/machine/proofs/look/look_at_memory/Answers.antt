@@ -5,10 +5,13 @@ use Rattle.machine.proofs.look.look_at_memory.Goals as goal
 
 pub drive-ran-requires : goal.drive-ran-requires
 drive-ran-requires c =
-    may_drive c.requires c.args.table.now c.args.room.now c.if-table-ases.false refl c.room_need.ensures c.if-room-room_need.false
-    c.in_ok-choice_fault.ensures refl
+    let need = rw c.links-links.ensures at c.room_need.ensures in
+    let choices = rw c.links-links.ensures at c.in_ok-choice_fault.ensures in
+    may_drive c.requires c.args.table.now c.args.room.now c.if-table-ases.false refl need c.if-room-room_need.false choices refl
 
 pub returns : goal.returns
 returns c =
-    all_pass c.requires c.args.table.now c.args.room.now c.if-table-ases.false refl c.room_need.ensures c.if-room-room_need.false
-    c.in_ok-choice_fault.ensures refl (answered c.drive-ran.ensures (search rules) (search rules))
+    let need = rw c.links-links.ensures at c.room_need.ensures in
+    let choices = rw c.links-links.ensures at c.in_ok-choice_fault.ensures in
+    all_pass c.requires c.args.table.now c.args.room.now c.if-table-ases.false refl need c.if-room-room_need.false choices refl
+    (answered c.drive-ran.ensures (search rules) (search rules))
