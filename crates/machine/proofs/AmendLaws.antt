@@ -151,9 +151,6 @@ module _ {ws : List ℕ} {m k : ℕ} {w : Way} {t r : List ℕ} (laid : Laid ws 
   at : WayArc (ases_of (links_of ws)) w arc
   at = rw way (Laid-way laid k inside)
 
-  pub hearer_fits : 4 * w.hearer + 4 ≤ length t
-  hearer_fits = omega (arith, at.hearer_in, laid.table)
-
   pub hearer_in : w.hearer < ases_in ws
   hearer_in = at.hearer_in
 

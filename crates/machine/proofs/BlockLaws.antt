@@ -1,11 +1,11 @@
 -- The flags: a block that is passed over has nothing that waits, and one that was searched in vain may lose its flag.
 use Prim.Native.Nat.{ℕ, ◌+◌, ◌*◌, ◌/◌, ◌≤◌, ◌<◌}
 use mathlib.Core.Path.{◌≡◌, sym, ◌∙◌}
-use mathlib.Core.Bool.{Bool, true, false}
+use mathlib.Core.Bool.{Bool, false}
 use mathlib.Core.List.{List}
 use native.Mathlib.Omega.{arith}
 use native.Mathlib.Decide.{ℕ_discrete, dec_lt}
-use lib.ListN.{length, get_or, set, length-set}
+use lib.ListN.{get_or, set, length-set}
 use lib.Seq.{get_or-set_other}
 use Rattle.machine.specs.Room.{flag_at, waiting_word, Flagged}
 use Rattle.machine.specs.Steps.{NoneWaits, FirstWaits}

@@ -27,9 +27,6 @@ abbrev pub moved : ℕ → List ℕ → ℕ → List ℕ
 moved m r k = set (set r (2 * m + k) (waiting_word m r k)) (4 * m + k) 0
 
 module _ {ws : List ℕ} {m d k : ℕ} {t r : List ℕ} (l : Laid ws m t r) (home : d < ases_in ws) (inside : k < 2 * m) where
-  pub two_puts : {q v : List ℕ} {w : ℕ} → w ≡ waiting_word m r k → q ≡ set r (2 * m + k) w → v ≡ set q (4 * m + k) 0 → v ≡ moved m r k
-  two_puts {q} {v} {w} e f h = h ∙ ap (λ (x : List ℕ). set x (4 * m + k) 0) (f ∙ ap (set r (2 * m + k)) e)
-
   moved_word : (i : ℕ) → i ≢ 2 * m + k → i ≢ 4 * m + k → get_or (moved m r k) i 0 ≡ get_or r i 0
   moved_word i p q =
       get_or-set_other (set r (2 * m + k) (waiting_word m r k)) (4 * m + k) i 0 0 q

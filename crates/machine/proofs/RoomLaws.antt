@@ -1,6 +1,6 @@
 -- Sending along the index: a word that is put on one direction leaves every other word as it was, and the directions passed over are not
 -- the sender's.
-use Prim.Native.Nat.{ℕ, ◌+◌, ◌*◌, ◌/◌, ◌≤◌, ◌<◌}
+use Prim.Native.Nat.{ℕ, ◌+◌, ◌*◌, ◌≤◌, ◌<◌}
 use mathlib.Core.Path.{◌≡◌, refl, sym, ◌∙◌, ap, subst}
 use mathlib.Core.Logic.{◌≢◌}
 use mathlib.Core.List.{List}

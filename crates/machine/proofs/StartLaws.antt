@@ -1,14 +1,12 @@
 -- The fresh start, store by store: a direction more without anything held or waiting, and then the sending of the origin, which makes of
 -- table and room the definition's fresh start.
-use Prim.Native.Nat.{ℕ, ◌+◌, ◌*◌, ◌≤◌, ◌<◌}
-use mathlib.Core.Path.{◌≡◌, refl, sym, ◌∙◌, ap}
-use mathlib.Core.Logic.{◌≢◌}
+use Prim.Native.Nat.{ℕ, ◌+◌, ◌*◌, ◌<◌}
+use mathlib.Core.Path.{◌≡◌, refl, ◌∙◌, ap}
 use mathlib.Core.List.{List, ◌++◌}
 use native.Mathlib.Omega.{arith}
-use lib.ListN.{length, get_or, set, take, drop, length-append, length-drop, length-take, length-set}
+use lib.ListN.{length, get_or, take, drop, length-append, length-drop}
 use lib.Seq.{take_at, take-length}
-use borrow.Author.Count.{below_more}
-use Rattle.rules.specs.Pairs.{origin_of, unreachable_of}
+use Rattle.rules.specs.Pairs.{origin_of}
 use Rattle.rules.specs.Network.{links_of, ases_of}
 use Rattle.rules.specs.Stable.{table_of}
 use Rattle.rules.specs.Machine.{nothing, fresh, started}

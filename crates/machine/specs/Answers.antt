@@ -16,7 +16,6 @@ use Rattle.rules.specs.Stable.{table_of}
 use Rattle.rules.specs.Machine.{lowest, is_quiet}
 use Rattle.rules.specs.declared.Refusal.{Refusal}
 use Rattle.machine.specs.declared.Ran.{Ran}
-use Rattle.machine.specs.declared.Counts.{Counts}
 use Rattle.machine.specs.Entries.{fault_of_choices, run_on, reply_run, run_reply, final_table, final_room}
 use Rattle.machine.specs.Room.{net_of, ases_in, as_at}
 use Rattle.machine.specs.Runs.{Reached}

@@ -77,15 +77,7 @@ fn look_at_memory(
         return Err(Refusal::RoomShort);
     }
     choice_fault(choices, 2 * links)?;
-    let ran = drive(
-        net,
-        ases,
-        destination,
-        choices,
-        further,
-        table,
-        room,
-    );
+    let ran = drive(net, ases, destination, choices, further, table, room);
     room.fill(0);
     Ok(ran)
 }

@@ -46,6 +46,7 @@ const UNIT: u32 = 268435456;
 // Nothing waits.
 pub const NOTHING: u32 = 0;
 
+// Kept: (d) no `From`: the pair is another crate's type, and only one whose word fits has a word.
 pub fn pack_pair(pair: TypeLength) -> u32
     requires { pair_word pair < 4294967296 }
     ensures { result ≡ pair_word pair }

@@ -53,8 +53,8 @@ impl<'a> Machine<'a> {
         None
     }
 
-    #[tactic(auto, using(crate::proofs::BlockLaws::blocks))]
     // The first direction on which something waits. A block that is found to have none loses its flag.
+    #[tactic(auto, using(crate::proofs::BlockLaws::blocks))]
     pub fn first_waiting(&mut self) -> Option<usize>
         ensures stays { Stays self.old self.new }
         ensures table { self.new.table.now ≡ self.old.table.now }
@@ -90,6 +90,7 @@ impl<'a> Machine<'a> {
         ensures sent { Sent self.old.links u word (2 * self.old.links) self.old.room.now self.new.room.now }
     {
         let mut k = self.word(Part::Heads, u) as usize;
+        // Kept: (d) the room's words are numbers, and 2m ends a walk; an `Option` made for each step would say the same in more lines.
         while k < 2 * self.links {
             self.put_waiting(partner(k), word);
             k = self.word(Part::Nexts, k) as usize;

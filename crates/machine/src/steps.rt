@@ -66,6 +66,7 @@ impl<'a> Machine<'a> {
         let number = offers::number_at(self.table, u);
         let mut best = offers::offer_of(TypeLength::UNREACHABLE, number);
         let mut k = self.word(Part::Heads, u) as usize;
+        // Kept: (d) as in `send`, the walk goes on while the word is a direction.
         while k < 2 * self.links {
             best = self.hear(k, best);
             k = self.word(Part::Nexts, k) as usize;

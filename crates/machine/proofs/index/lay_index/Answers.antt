@@ -1,4 +1,4 @@
-use Rattle.std.proofs.Common.{refl, arith}
+use Rattle.std.proofs.Common.{arith}
 use Rattle.machine.proofs.IndexLaws.{may_begin, index_more}
 use Rattle.machine.proofs.index.lay_index.Goals as goal
 

@@ -1,6 +1,5 @@
 -- The ASes stand in the list, so that the search says whether the destination is one of them, and where.
 use Rattle.std.proofs.Common.{refl, rules, arith, []}
-use Rattle.machine.specs.Answers.{Looking}
 use Rattle.machine.proofs.AnswerLaws.{may_look, may_search, no_destination, located, at_destination}
 use Rattle.machine.proofs.look.look_at_network.Goals as goal
 
