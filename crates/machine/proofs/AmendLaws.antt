@@ -30,16 +30,16 @@ use Rattle.rules.proofs.MachineLaws.{line_over}
 use Rattle.offers.specs.declared.Way.{Way}
 use Rattle.offers.specs.declared.Offered.{Offered}
 use Rattle.offers.specs.Lines.{entry_pair, with_line}
-use Rattle.offers.specs.Ways.{arc_at}
+use Rattle.offers.specs.Ways.{arc_at, way_of_direction}
 use Rattle.offers.specs.Passes.{as_offer}
 use Rattle.offers.specs.Steps.{ranked_offer, Fair}
 use Rattle.offers.specs.Electing.{entry_offer}
 use Rattle.offers.proofs.WayLaws.{WayArc}
 use Rattle.offers.proofs.ConsiderLaws.{Le-Fair, considered, choose_new, choose_old}
-use Rattle.machine.specs.Room.{pair_of, held_word, net_of, ases_in, as_at, Flagged, Laid, Holds}
-use Rattle.machine.specs.Steps.{Taking, Took, Anew, held_offer, Amending, Amended}
+use Rattle.machine.specs.Room.{pair_word, pair_of, held_word, net_of, ases_in, as_at, Laid, Holds}
+use Rattle.machine.specs.Steps.{Took, held_offer, Amended}
 use Rattle.machine.proofs.HeldLaws.{Laid-way, Laid-direction, Laid-arc, Laid-over}
-use Rattle.machine.proofs.StateLaws.{own_line, took_Laid, took_Holds}
+use Rattle.machine.proofs.StateLaws.{Anew, own_line, took_Holds}
 
 -- One changed pair ----------------------------------------------------------------------------------------------------------
 
@@ -141,7 +141,7 @@ extension_fits k c p = go (ℕ_discrete (extended_type k p.typ) 4)
         let x = Ext-cell k p.typ ne in
         rw (extension_is c p x) (omega (arith, Ext-range x), omega arith)
 
-module _ {ws : List ℕ} {m k : ℕ} {w : Way} {t r f : List ℕ} (g : Amending ws m k w t r f) where
+module _ {ws : List ℕ} {m k : ℕ} {w : Way} {t r : List ℕ} (laid : Laid ws m t r) (inside : k < 2 * m) (way : w ≡ way_of_direction (links_of ws) r k) where
   abbrev arc : Arc
   arc = arc_at (links_of ws) k
 
@@ -149,28 +149,21 @@ module _ {ws : List ℕ} {m k : ℕ} {w : Way} {t r f : List ℕ} (g : Amending 
   hearer = as_at ws w.hearer
 
   at : WayArc (ases_of (links_of ws)) w arc
-  at = rw g.way (Laid-way g.laid k g.direction)
+  at = rw way (Laid-way laid k inside)
 
-  pub hearer_fits : 4 * w.hearer + 4 ≤ length t
-  hearer_fits = omega (arith, at.hearer_in, g.laid.table)
+  pub hearer_in : w.hearer < ases_in ws
+  hearer_in = at.hearer_in
 
-  pub may_offer : (2 * m + k < length r) × (4 * w.neighbour + 4 ≤ length t) × (w.cost ≤ 1)
-  may_offer =
-      let cost = ap (λ (v : Way). v.cost) g.way in
-      (omega (arith, g.direction, g.laid.room), omega (arith, at.neighbour_in, g.laid.table), omega arith)
+  pub neighbour_fits : (4 * w.neighbour + 4 ≤ length t) × (w.cost ≤ 1)
+  neighbour_fits =
+      let cost = ap (λ (v : Way). v.cost) way in
+      (omega (arith, at.neighbour_in, laid.table), omega arith)
 
-  pub may_take : {x : Offered} → x ≡ held_offer m t r k w → Taking m t r f w.hearer x
-  may_take {x} new =
-      let cost = ap (λ (v : Way). v.cost) g.way in
+  pub new_fits : {x : Offered} → x ≡ held_offer m t r k w → pair_word x.pair < 4294967296
+  new_fits {x} new =
+      let cost = ap (λ (v : Way). v.cost) way in
       let fits = extension_fits w.kind w.cost (pair_of (held_word m r k)) in
-      record {
-        table = hearer_fits;
-        sending = record { flagged = g.flagged; count = ases_in ws; place = at.hearer_in; index = g.laid.index };
-        word = omega (arith, ap (λ (o : Offered). o.pair.typ) new, ap (λ (o : Offered). o.pair.length) new);
-      }
-
-  pub may_elect : Laid ws m t r × Flagged m r f × (w.hearer < ases_in ws)
-  may_elect = (g.laid, g.flagged, at.hearer_in)
+      omega (arith, ap (λ (o : Offered). o.pair.typ) new, ap (λ (o : Offered). o.pair.length) new)
 
   -- x: what direction k offers now; y: what the hearer's line stands for
   module _ {x y : Offered} (new : x ≡ held_offer m t r k w) (stands : y ≡ entry_offer t w.hearer) where
@@ -192,15 +185,15 @@ module _ {ws : List ℕ} {m k : ℕ} {w : Way} {t r f : List ℕ} (g : Amending 
       chosen e =
           let fair : Fair y = Le-Fair hearer (rw standing (best_Le-none (best_is (over h) hearer (net_of ws)))) in
           let told : pair_of (held_word m r k) ≡ s.held arc.direction =
-          holds.held k g.direction ∙ ap s.held (sym (Laid-direction g.laid k g.direction)) in
-          (considered fair new e).chosen arc (Laid-over g.laid k g.direction g.way refl)
+          holds.held k inside ∙ ap s.held (sym (Laid-direction laid k inside)) in
+          (considered fair new e).chosen arc (Laid-over laid k inside way refl)
           ∙ ap (λ (o : Offer). choose o (offer arc (pair_of (held_word m r k)))) standing ∙ ap (λ (p : TypeLength). choose old (offer arc p)) told
 
       own : arc.hearer ≡ hearer
       own = sym at.hearer
 
       elsewhere : (j : ℕ) → j ≢ arc.direction → s.held j ≡ h j
-      elsewhere j ne = same j (λ e. ne (e ∙ sym (Laid-direction g.laid k g.direction)))
+      elsewhere j ne = same j (λ e. ne (e ∙ sym (Laid-direction laid k inside)))
 
       new_best : better (as_offer x) (as_offer y) ≡ true → as_offer x ≡ best (over s.held) hearer (net_of ws)
       new_best e =
@@ -209,7 +202,7 @@ module _ {ws : List ℕ} {m k : ℕ} {w : Way} {t r f : List ℕ} (g : Amending 
           ⊎_elim (λ n. (let z : as_offer x ≡ old = c ∙ n in absurd (Less-apart less (rw z (le_refl old)))))
           (λ n.
           let z : as_offer x ≡ offered = c ∙ n in
-          z ∙ sym (amend_better (net_of ws) (direction_unique (links_of ws)) arc (Laid-arc g.laid k g.direction) own h s.held elsewhere (rw z at less)))
+          z ∙ sym (amend_better (net_of ws) (direction_unique (links_of ws)) arc (Laid-arc laid k inside) own h s.held elsewhere (rw z at less)))
           (choose_one old offered)
 
       kept_best : better (as_offer x) (as_offer y) ≡ false → y.next ≢ x.next → as_offer y ≡ best (over s.held) hearer (net_of ws)
@@ -217,38 +210,36 @@ module _ {ws : List ℕ} {m k : ℕ} {w : Way} {t r f : List ℕ} (g : Amending 
           let c : old ≡ choose old offered = sym standing ∙ chosen (choose_old (as_offer y) (as_offer x) e) in
           let le : Le old offered = rw (← c) at (choose-Le old offered).1 in
           let from : arc.neighbour ≡ x.next =
-          (Laid-over g.laid k g.direction g.way refl).neighbour ∙ ap (λ (o : Offered). o.next) (sym new) in
+          (Laid-over laid k inside way refl).neighbour ∙ ap (λ (o : Offered). o.next) (sym new) in
           standing
-          ∙ sym (amend_kept (net_of ws) (direction_unique (links_of ws)) arc (Laid-arc g.laid k g.direction) own h s.held elsewhere
+          ∙ sym (amend_kept (net_of ws) (direction_unique (links_of ws)) arc (Laid-arc laid k inside) own h s.held elsewhere
           (arcs_rank (links_of ws)) le (λ n. ne (ap (λ (o : Offer). o.next) standing ∙ n ∙ from)))
 
     -- a line that is taken, the new one or the old one, amends
-    amended : {z : Offered} {t' r' f' : List ℕ} → Took m t r w.hearer y.pair z t' r' f'
+    amended : {z : Offered} {t' r' : List ℕ} → Took m t r w.hearer y.pair z t' r'
         → ((rest : List ℕ) (s : State) → Holds ws m rest s t r → (h : ℕ → TypeLength) → s.lines hearer ≡ line_over (net_of ws) h hearer
         → ((j : ℕ) → j ≢ k → s.held j ≡ h j) → as_offer z ≡ best (over s.held) hearer (net_of ws))
-        → Amended ws m k t r w.hearer t' r' f'
+        → Amended ws m k t r w.hearer t' r'
     amended took elects =
         let is : y.pair ≡ entry_pair t w.hearer = ap (λ (o : Offered). o.pair) stands in
         record {
-          laid = took_Laid g.laid at.hearer_in is took;
-          flagged = took.flagged;
           after = λ rest s h d b holds line same short fits ne.
-              took_Holds g.laid at.hearer_in is took holds (elects rest s holds h line same) d b short fits ne;
+              took_Holds laid at.hearer_in is took holds (elects rest s holds h line same) d b short fits ne;
         }
 
-    pub Amended-new : better (as_offer x) (as_offer y) ≡ true → {t' r' f' : List ℕ} → Took m t r w.hearer y.pair x t' r' f'
-        → Amended ws m k t r w.hearer t' r' f'
+    pub Amended-new : better (as_offer x) (as_offer y) ≡ true → {t' r' : List ℕ} → Took m t r w.hearer y.pair x t' r'
+        → Amended ws m k t r w.hearer t' r'
     Amended-new e took = amended took (λ rest s holds h line same. new_best holds line same e)
 
-    pub Amended-kept : better (as_offer x) (as_offer y) ≡ false → y.next ≢ x.next → Amended ws m k t r w.hearer t r f
+    pub Amended-kept : better (as_offer x) (as_offer y) ≡ false → y.next ≢ x.next → Amended ws m k t r w.hearer t r
     Amended-kept e ne =
-        amended (record { line = stays; told = rw (same_self y.pair) refl; flagged = g.flagged }) (λ rest s holds h line same. kept_best holds line same e ne)
+        amended (record { line = stays; told = rw (same_self y.pair) refl }) (λ rest s holds h line same. kept_best holds line same e ne)
       where
         stays : t ≡ with_line t w.hearer (line_of (as_offer y))
         stays =
             sym (ap (λ (o : Offered). with_line t w.hearer (line_of (as_offer o))) stands
             ∙ rw (set-get_or t (4 * w.hearer + 1) 0, set-get_or t (4 * w.hearer + 2) 0, set-get_or t (4 * w.hearer + 3) 0))
 
-  pub Amended-Anew : {t' r' f' : List ℕ} → Anew ws m t r w.hearer t' r' f' → Amended ws m k t r w.hearer t' r' f'
+  pub Amended-Anew : {t' r' : List ℕ} → Anew ws m t r w.hearer t' r' → Amended ws m k t r w.hearer t' r'
   Amended-Anew a =
-      record { laid = a.laid; flagged = a.flagged; after = λ rest s h d b holds line same short fits ne. a.after rest s d b holds short fits ne }
+      record { after = λ rest s h d b holds line same short fits ne. a.after rest s d b holds short fits ne }

@@ -1,15 +1,14 @@
 -- The answers: what a refusal leaves, what a run that passes leaves, and the verdict test by test.
 use Prim.Native.Nat.{ℕ, zero, suc, ◌+◌, ◌*◌, ◌/◌, ◌≤◌, ◌<◌}
 use mathlib.Core.Path.{◌≡◌, refl, sym, ◌∙◌, ap, subst}
-use mathlib.Core.Bool.{Bool, true, false, cond}
+use mathlib.Core.Bool.{Bool, true, false, cond, not}
 use mathlib.Core.List.{List, [], ◌∷◌, ◌++◌}
 use native.Mathlib.Omega.{arith}
 use native.Mathlib.Numerals.{add-one}
-use native.Mathlib.Decide.{dec_lt}
-use lib.Dec.{eqb, ltb, leb}
+use lib.Dec.{ltb, leb}
 use lib.ListN.{length, get_or, take, drop, replicate, drop_of_length-le}
-use lib.Seq.{drop-cons, get_or-take}
-use borrow.Author.Tests.{eq-eqb, ne_eqb, lt-ltb, le-ltb, ltb-true, le-leb, lt-leb}
+use lib.Seq.{drop-cons, get_or-take, length-take-le}
+use borrow.Author.Tests.{lt-ltb, le-ltb, ltb-true, le-leb, lt-leb}
 use Rattle.rules.specs.Replies.{Verdict}
 use Rattle.std.specs.Prelude.{Err, Ok, Result}
 use Rattle.rules.specs.declared.Refusal.{Refusal}
@@ -18,25 +17,23 @@ use Rattle.rules.specs.Network.{links_of, ases_of}
 use Rattle.rules.specs.Checks.{base_limits, check_words, needed_room}
 use Rattle.rules.specs.Entry.{and_then, verdict_of}
 use Rattle.rules.specs.Stable.{table_of}
-use Rattle.rules.specs.Machine.{Run, run_of, lowest, is_quiet}
+use Rattle.rules.specs.Machine.{Run, run_of, started, lowest, is_quiet}
 use Rattle.rules.specs.Ascending.{Ascending}
 use Rattle.rules.proofs.ListLaws.{member_yes, member_no}
 use Rattle.rules.proofs.AcceptedLinks.{check_words-Accepted}
 use Rattle.rules.proofs.NetworkLaws.{ases_Ascending}
 use Rattle.rules.proofs.LineLaws.{table_length}
 use Rattle.rules.proofs.VerdictLaws.{not_passes}
-use Rattle.std.specs.Prelude.{Option}
-use Rattle.std.specs.Prelude.{Some, None}
+use Rattle.std.specs.Prelude.{Option, Some, None, is_some, is_none}
 use Rattle.network.specs.Promises.{Listed, Stands}
 use Rattle.network.proofs.ListedLaws.{listed_front, listed_ascends, placed, unplaced}
-use Rattle.network.proofs.PrefixLaws.{count}
+use Rattle.network.proofs.PrefixLaws.{count as count_links}
 use Rattle.machine.specs.declared.Ran.{Ran}
 use Rattle.machine.specs.declared.Counts.{Counts}
 use Rattle.machine.specs.Entries.{choice_from, fault_of_choices, fault_of_run, run_on, run_reply, final_table, final_room}
 use Rattle.machine.specs.Room.{net_of, ases_in, as_at, Laid}
-use Rattle.machine.specs.Steps.{FirstWaiting}
-use Rattle.machine.specs.Runs.{Reached, ChoseAll, WentOn}
-use Rattle.machine.specs.Start.{Started}
+use Rattle.machine.specs.Steps.{FirstBetween}
+use Rattle.machine.specs.Runs.{no_counts, Reached, ChoseAll, WentOn}
 use Rattle.machine.specs.Answers.{Answered, Outcome, NetworkAnswer, MemoryAnswer, RunAnswer, fault_of_memory, fault_of_network, Looking, Located, Driving, Driven}
 use Rattle.machine.proofs.RunLaws.{quiet_here, lowest_here}
 
@@ -80,32 +77,36 @@ choices_good directions j (c ∷ cs) e i h = go (ltb c directions) refl e (choic
 -- A run that passes -----------------------------------------------------------------------------------------------------------------
 
 quiet_is : {ws : List ℕ} {m d : ℕ} {rest : List ℕ} {run : Run} {c : Counts} {t r : List ℕ} → Laid ws m t r → Reached ws m d rest run c t r
-    → (k : ℕ) → FirstWaiting m r k → eqb k (2 * m) ≡ is_quiet (lowest (net_of ws) run.state.waiting)
-quiet_is {ws} {m} {d} {rest} {run} {c} {t} {r} l h k f = go (dec_lt k (2 * m))
-  where
-    go : Dec (k < 2 * m) → eqb k (2 * m) ≡ is_quiet (lowest (net_of ws) run.state.waiting)
-    go (yes i) = rw (ne_eqb k (2 * m) (λ e. omega arith), lowest_here l h.holds k f i)
-    go (no n) =
-        let e : k ≡ 2 * m = omega (arith, f.bound, n) in
-        rw (eq-eqb k (2 * m) e, quiet_here l h.holds k f (omega arith))
+    → (o : Option ℕ) → FirstBetween m r 0 (2 * m) o → is_none o ≡ is_quiet (lowest (net_of ws) run.state.waiting)
+quiet_is l h None f = sym (ap is_quiet (quiet_here l h.holds f))
+quiet_is l h (Some k) f = sym (ap is_quiet (lowest_here l h.holds k f))
 
-module _ {ws : List ℕ} {m place : ℕ} {cs : List ℕ} {n : ℕ} {t : List ℕ} {c : Counts} {t' r' f' : List ℕ} where
-  pub driven : {b : Counts} {u v e x y f : List ℕ} → Started ws m place t u v e → ChoseAll ws m place cs u v b x y f
-      → WentOn ws m place n b x y c t' r' f' → Driven ws m place cs n t c t' r' f'
+none_is : (o : Option ℕ) (b : Bool) → is_some o ≡ not b → b ≡ is_none o
+none_is o true e = sym (ap not e)
+none_is o false e = sym (ap not e)
+
+module _ {ws : List ℕ} {m place : ℕ} {cs : List ℕ} {n : ℕ} {t : List ℕ} {c : Counts} {t' r' : List ℕ} where
+  -- p, q: the table and the room as the machine has them at its end
+  pub driven : {b : Counts} {u v x y p q : List ℕ} → Reached ws m place (drop (4 * ases_in ws) t) (started (net_of ws) (as_at ws place)) no_counts u v
+      → ChoseAll ws m place cs u v b x y → WentOn ws m place n b x y c p q → Laid ws m p q → (o : Option ℕ) → FirstBetween m q 0 (2 * m) o
+      → {quiet : Bool} → is_some o ≡ not quiet
+      → t' ≡ p → r' ≡ q → Driven ws m place cs n t (record { made = c.made; idle = c.idle; quiet = quiet }) t' r'
   unfolding run_of
-  driven s a w = record { laid = w.laid; flagged = w.flagged; reached = w.after _ _ (a.after _ _ s.reached) }
+  driven s a w l o f {quiet} z e g =
+      let reached = w.after _ _ (a.after _ _ s) in
+      rw (e, g) (record { reached = reached; waits_not = none_is o quiet z ∙ quiet_is l reached o f })
 
-  pub answered : Driven ws m place cs n t c t' r' f' → {k : ℕ} → FirstWaiting m r' k → {r r'' : List ℕ} → length r' ≡ length r
-      → r'' ≡ replicate (length r') 0 → RunAnswer ws place cs n t r (Ok (record { made = c.made; idle = c.idle; quiet = (eqb k (2 * m)) })) t' r''
-  answered d {k} f long z =
-      let h = d.reached in
-      let us = ases_of (links_of ws) in
-      let lines = (run_on ws (as_at ws place) cs n).state.lines in
-      record {
-        replies = rw (h.made, h.idle, quiet_is d.laid h k f);
-        tabled = h.holds.lines ∙ ap (λ (j : ℕ). table_of lines us ++ drop j t) (sym (table_length lines us));
-        zeroed = rw (← long) z;
-      }
+pub answered : {ws : List ℕ} {m place : ℕ} {cs : List ℕ} {n : ℕ} {t : List ℕ} {out : Ran} {t' r' : List ℕ} → Driven ws m place cs n t out t' r'
+    → {r r'' : List ℕ} → length r' ≡ length r → r'' ≡ replicate (length r') 0 → RunAnswer ws place cs n t r (Ok out) t' r''
+answered {ws} {m} {place} {cs} {n} {t} {out} d long z =
+    let h = d.reached in
+    let us = ases_of (links_of ws) in
+    let lines = (run_on ws (as_at ws place) cs n).state.lines in
+    record {
+      replies = rw (h.made, h.idle, ← d.waits_not) refl;
+      tabled = h.holds.lines ∙ ap (λ (j : ℕ). table_of lines us ++ drop j t) (sym (table_length lines us));
+      zeroed = rw (← long) z;
+    }
 
 -- Refusals, one after the other -----------------------------------------------------------------------------------------------------
 
@@ -115,21 +116,24 @@ refused : (ws : List ℕ) (d : ℕ) (cs : List ℕ) (n : ℕ) {v : Verdict} (t r
 refused ws d cs n t r e = rw e (record { replies = refl; tabled = refl; zeroed = refl })
 
 -- 8 and 13
-module _ {ws list : List ℕ} {most place : ℕ} {cs : List ℕ} {n : ℕ} (g : Located ws list most place cs n) (t r : List ℕ) where
-  pub no_table : length t < 4 * most → MemoryAnswer ws place cs n t r (Err OutputShort) t r
+module _ {ws ases : List ℕ} {place : ℕ} {cs : List ℕ} {n : ℕ} (g : Located ws ases place cs n) (t r : List ℕ) where
+  count : length ases ≡ ases_in ws
+  count = ap length g.listed
+
+  pub no_table : length t < 4 * length ases → MemoryAnswer ws place cs n t r (Err OutputShort) t r
   no_table h =
-      let short : length t < 4 * ases_in ws = omega (arith, g.count) in
+      let short : length t < 4 * ases_in ws = omega (arith, count) in
       refused ws (as_at ws place) cs n t r (rw (lt-leb (4 * ases_in ws) (length t) short))
 
-  module _ {m need : ℕ} (table : 4 * most ≤ length t) (links : m ≡ length ws / 3) (needs : need ≡ needed_room m most) where
+  module _ {m need : ℕ} (table : 4 * length ases ≤ length t) (links : m ≡ length ws / 3) (needs : need ≡ needed_room m (length ases)) where
     links_are : length (links_of ws) ≡ m
     links_are = omega (arith, g.looking.words)
 
     need_is : need ≡ needed_room (length (links_of ws)) (ases_in ws)
-    need_is = needs ∙ rw (links_are, g.count)
+    need_is = needs ∙ rw (links_are, count)
 
     enough : leb (4 * ases_in ws) (length t) ≡ true
-    enough = le-leb (4 * ases_in ws) (length t) (omega (arith, g.count))
+    enough = le-leb (4 * ases_in ws) (length t) (omega (arith, count))
 
     pub no_room : length r < need → MemoryAnswer ws place cs n t r (Err RoomShort) t r
     no_room h =
@@ -150,7 +154,7 @@ module _ {ws list : List ℕ} {most place : ℕ} {cs : List ℕ} {n : ℕ} (g : 
           → MemoryAnswer ws place cs n t r out t' r'
       all_pass e o = rw (memory_is ∙ e) o
 
-      pub may_drive : v ≡ Ok tt → Driving ws m list most place cs n t r
+      pub may_drive : v ≡ Ok tt → Driving ws m ases place cs n t r
       may_drive e =
           record {
             starting =
@@ -159,8 +163,7 @@ module _ {ws list : List ℕ} {most place : ℕ} {cs : List ℕ} {n : ℕ} (g : 
                   few_links = omega (arith, links_are, g.looking.few_links);
                   words = omega (arith, links_are, g.looking.words);
                   listed = g.listed;
-                  count = g.count;
-                  few = omega (arith, g.count, g.looking.few_ases);
+                  few = omega (arith, count, g.looking.few_ases);
                   destination = g.destination;
                   table = table;
                   room = omega arith;
@@ -173,7 +176,7 @@ module _ {ws list : List ℕ} {most place : ℕ} {cs : List ℕ} {n : ℕ} (g : 
 -- 7
 module _ {ws cs : List ℕ} {n : ℕ} (g : Looking ws cs n) {l u : List ℕ} {k : ℕ} (long : length l ≡ 512)
     (listed : Listed (ases_of (links_of ws)) l u k) where
-  fits : length (ases_of (links_of ws)) ≤ length l
+  pub fits : length (ases_of (links_of ws)) ≤ length l
   fits = omega (arith, g.few_ases)
 
   pub may_search : (k ≤ length u) × Ascending (take k u)
@@ -188,8 +191,9 @@ module _ {ws cs : List ℕ} {n : ℕ} (g : Looking ws cs n) {l u : List ℕ} {k 
       here : Stands u k d (Some i)
       here = subst (Stands u k d) e stands
 
-      pub located : Located ws u k i cs n
-      located = record { looking = g; listed = listed_front listed; count = listed.count; destination = here.0 }
+      pub located : Located ws (take k u) i cs n
+      located =
+          record { looking = g; listed = listed_front listed; destination = omega (arith, here.0, length-take-le k u may_search.0) }
 
       its_number : as_at ws i ≡ d
       its_number = ap (λ (us : List ℕ). get_or us i 0) (sym (listed_front listed)) ∙ get_or-take k u i 0 here.0 ∙ here.1
@@ -221,16 +225,17 @@ module _ (ws : List ℕ) (d : ℕ) (cs : List ℕ) (n : ℕ) (t r : List ℕ) wh
       unfolding fault_of_run
       fault_is = rw (le-leb (length cs) 65536 few, le-leb n 65536 deliveries, check)
 
-      pub bad_links : {why : Refusal} → c ≡ Err why → Answered base_limits ws d cs n t r (Err why) t r
-      bad_links e =
-          from_Outcome (fault_is ∙ ap (λ (x : Result ℕ Refusal). and_then (verdict_of x) (fault_of_network ws d cs (length t) (length r))) e)
-          (refused ws d cs n t r refl)
+      pub bad_links : {why : Refusal} → c ≡ Err why → {out : Result Ran Refusal} → out ≡ Err why → Answered base_limits ws d cs n t r out t r
+      bad_links e o =
+          rw o
+          (from_Outcome (fault_is ∙ ap (λ (x : Result ℕ Refusal). and_then (verdict_of x) (fault_of_network ws d cs (length t) (length r))) e)
+          (refused ws d cs n t r refl))
 
       pub may_look : {known : ℕ} → c ≡ Ok known → Looking ws cs n
       may_look {known} e =
           let (whole, ok) = check_words-Accepted base_limits ws known (sym check ∙ e) in
           record {
-            words = omega (arith, count ws, whole);
+            words = omega (arith, count_links ws, whole);
             few_links = ok.few_links;
             few_ases = omega (arith, ok.count, ok.few_ases);
             few_choices = few;

@@ -27,7 +27,7 @@ use Rattle.offers.proofs.PlaceLaws.{place_at}
 use Rattle.offers.proofs.WayLaws.{arc_In, arc_direction, WayArc, way_arc}
 use Rattle.offers.proofs.ConsiderLaws.{Fair-Le, Le-Fair}
 use Rattle.machine.specs.Room.{pair_of, held_word, next_word, head_word, hearer_word, net_of, ases_in, as_at, HeardFrom, Laid}
-use Rattle.machine.specs.Steps.{held_over, Hearing, Heard}
+use Rattle.machine.specs.Steps.{held_over, Heard}
 
 -- different places have different ASes
 pub as_place : (ws : List ℕ) (i j : ℕ) → i < ases_in ws → j < ases_in ws → as_at ws i ≡ as_at ws j → i ≡ j
@@ -56,28 +56,28 @@ Laid-over {ws} {m} {t} {r} l k h {w} is {x} f =
 
 -- One direction -------------------------------------------------------------------------------------------------------------
 
-module _ {ws : List ℕ} {m : ℕ} {t r : List ℕ} {k : ℕ} {o : Offered} (h : Hearing ws m t r k o)
+module _ {ws : List ℕ} {m : ℕ} {t r : List ℕ} {k : ℕ} (laid : Laid ws m t r) (inside : k < 2 * m)
     (w : Way) (is : w ≡ way_of_direction (links_of ws) r k) where
   arc : Arc
   arc = arc_at (links_of ws) k
 
   at : WayArc (ases_of (links_of ws)) w arc
   unfolding arc
-  at = rw is (Laid-way h.laid k h.direction)
+  at = rw is (Laid-way laid k inside)
 
   pub teller_fits : 4 * w.neighbour + 4 ≤ length t
-  teller_fits = omega (arith, at.neighbour_in, h.laid.table)
+  teller_fits = omega (arith, at.neighbour_in, laid.table)
 
   pub told_fits : (p : TypeLength) (x : ℕ) → p ≡ pair_of x → p.length + w.cost < 4294967296
   told_fits p x e = omega (arith, ap (λ (v : Way). v.cost) is, ap (λ (q : TypeLength). q.length) e)
 
-  pub hear_own : (x : ℕ) (p : TypeLength) (o' : Offered) → x ≡ number_word t w.neighbour → p ≡ pair_of (held_word m r k)
+  pub hear_own : {o : Offered} (x : ℕ) (p : TypeLength) (o' : Offered) → x ≡ number_word t w.neighbour → p ≡ pair_of (held_word m r k)
       → Considered o w x p o' → Heard ws m r (hearer_word r k) k o o'
   unfolding arc
-  hear_own x p o' f g c =
-      let own : arc.hearer ≡ as_at ws (hearer_word r k) = sym (Laid-way h.laid k h.direction).hearer in
-      let over : OverWay w x arc = Laid-over h.laid k h.direction is f in
-      let held : p ≡ held_over m r arc = g ∙ ap (λ (i : ℕ). pair_of (held_word m r i)) (sym (Laid-direction h.laid k h.direction)) in
+  hear_own {o} x p o' f g c =
+      let own : arc.hearer ≡ as_at ws (hearer_word r k) = sym (Laid-way laid k inside).hearer in
+      let over : OverWay w x arc = Laid-over laid k inside is f in
+      let held : p ≡ held_over m r arc = g ∙ ap (λ (i : ℕ). pair_of (held_word m r i)) (sym (Laid-direction laid k inside)) in
       c.chosen arc over ∙ ap (λ (q : TypeLength). choose (as_offer o) (offer arc q)) held
       ∙ ap (choose (as_offer o)) (sym (heard_own (held_over m r) (as_at ws (hearer_word r k)) arc own))
 

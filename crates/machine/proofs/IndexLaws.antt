@@ -8,7 +8,6 @@ use native.Mathlib.Decide.{ℕ_discrete}
 use lib.ListN.{length, get_or, set, length-set}
 use lib.Seq.{get_or-set_same, get_or-set_other}
 use borrow.Author.Tests.{eq-eqb, ne_eqb}
-use borrow.Author.Count.{below_more}
 use Rattle.offers.specs.Ways.{partner}
 use Rattle.offers.proofs.WayLaws.{partner_within}
 use Rattle.machine.specs.Room.{place_word, next_word, head_word, hearer_word, HeardFrom, Indexed}
@@ -64,20 +63,7 @@ module _ (m : ℕ) (r r' : List ℕ) (same : (i : ℕ) → i < 2 * m → get_or 
         nexts = λ i p q. rw (hearer_same i q, above (6 * m + i) (omega arith)) (heard_same (g.nexts i p q));
       }
 
--- No heads ------------------------------------------------------------------------------------------------------------------
-
-pub heads_none : (m : ℕ) (r : List ℕ) → NoHeads m 0 r r
-heads_none m r = record { long = refl; below = λ i h. refl; heads = λ u h. absurd (omega arith) }
-
-pub heads_more : {m j : ℕ} {r q : List ℕ} → NoHeads m j r q → 8 * m + j < length r → NoHeads m (j + 1) r (set q (8 * m + j) (2 * m))
-heads_more {m} {j} {r} {q} g fits =
-    record {
-      long = simp length-set g.long;
-      below = λ i h. get_or-set_other q (8 * m + j) i (2 * m) 0 (λ f. omega arith) ∙ g.below i h;
-      heads = below_more (λ (u : ℕ). head_word m (set q (8 * m + j) (2 * m)) u ≡ 2 * m) j
-          (λ u h. get_or-set_other q (8 * m + j) (8 * m + u) (2 * m) 0 (λ f. omega arith) ∙ g.heads u h)
-          (get_or-set_same q (8 * m + j) (2 * m) 0 (omega (arith, g.long)));
-    }
+-- From no heads on ---------------------------------------------------------------------------------------------------------
 
 module _ {m n : ℕ} {r q : List ℕ} (start : Indexing m n r) (g : NoHeads m n r q) where
   pub may_begin : Indexing m n q
@@ -111,14 +97,6 @@ module _ {m n : ℕ} {r q : List ℕ} (start : Indexing m n r) (g : NoHeads m n 
         below = λ i h. x.below i h ∙ g.below i (omega arith);
         indexed = x.indexed;
       }
-
--- the stores of one direction
-module _ {m k : ℕ} {r : List ℕ} (g : HasHead m k r) {u h : ℕ} where
-  pub head_fits : u ≡ hearer_word r k → h ≡ head_word m r u → h < 4294967296
-  head_fits e f = (let bound : h ≤ 2 * m = rw (f ∙ ap (head_word m r) e) g.head in omega (arith, g.few))
-
-  pub direction_put : {q v : List ℕ} → u ≡ hearer_word r k → h ≡ head_word m r u → q ≡ set r (6 * m + k) h → v ≡ set q (8 * m + u) k → v ≡ with_direction m r k
-  direction_put e f a b = b ∙ rw (a, f, e)
 
 -- One direction more --------------------------------------------------------------------------------------------------------
 

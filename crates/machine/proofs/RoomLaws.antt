@@ -1,6 +1,6 @@
 -- Sending along the index: a word that is put on one direction leaves every other word as it was, and the directions passed over are not
 -- the sender's.
-use Prim.Native.Nat.{ℕ, ◌+◌, ◌*◌, ◌/◌, ◌≤◌, ◌<◌}
+use Prim.Native.Nat.{ℕ, ◌+◌, ◌*◌, ◌≤◌, ◌<◌}
 use mathlib.Core.Path.{◌≡◌, refl, sym, ◌∙◌, ap, subst}
 use mathlib.Core.Logic.{◌≢◌}
 use mathlib.Core.List.{List}
@@ -9,9 +9,8 @@ use native.Mathlib.Decide.{ℕ_discrete, dec_lt}
 use lib.ListN.{length, set, length-set}
 use lib.Seq.{get_or-set_same, get_or-set_other}
 use Rattle.offers.specs.Ways.{partner}
-use Rattle.machine.specs.Room.{place_word, waiting_word, next_word, head_word, hearer_word, HeardFrom, Flagged}
-use Rattle.machine.specs.Steps.{Sending, Sent}
-use Rattle.machine.proofs.BlockLaws.{Flagged-put}
+use Rattle.machine.specs.Room.{place_word, waiting_word, next_word, head_word, hearer_word, HeardFrom, ases_in, Laid}
+use Rattle.machine.specs.Steps.{Sent}
 use Rattle.machine.proofs.IndexLaws.{partner_twice, partner_in, hearer_partner}
 
 pub Sent-none : {m u j : ℕ} {r : List ℕ} → HeardFrom m r u 0 j → (w : ℕ) → Sent m u w j r r
@@ -60,43 +59,41 @@ module _ {m u w k : ℕ} {r q : List ℕ} (s : Sent m u w k r q) (inside : k < 2
 -- The loop ------------------------------------------------------------------------------------------------------------------
 
 -- the AS at place u has sent the word w before it comes to direction k, which it hears over
-pub record SentTo (m u w : ℕ) (r : List ℕ) (k : ℕ) (q f : List ℕ) : Type 0 where
+pub record SentTo (m u w : ℕ) (r : List ℕ) (k : ℕ) (q : List ℕ) : Type 0 where
   pub bound : k ≤ 2 * m
   pub own : k < 2 * m → hearer_word r k ≡ u
   pub sent : Sent m u w k r q
-  pub flagged : Flagged m q f
 
-module _ {m u : ℕ} {r f₀ : List ℕ} (g : Sending m u r f₀) (w : ℕ) where
-  pub send_first : {k : ℕ} → k ≡ head_word m r u → SentTo m u w r k r f₀
+module _ {ws : List ℕ} {m u : ℕ} {t r : List ℕ} (g : Laid ws m t r) (place : u < ases_in ws) (w : ℕ) where
+  pub send_first : {k : ℕ} → k ≡ head_word m r u → SentTo m u w r k r
   send_first e =
-      let head = g.index.heads u g.place in
-      rw e (record { bound = head.bound; own = head.own; sent = Sent-none head w; flagged = g.flagged })
+      let head = g.index.heads u place in
+      rw e (record { bound = head.bound; own = head.own; sent = Sent-none head w })
 
-  module _ {k : ℕ} {q f : List ℕ} (s : SentTo m u w r k q f) (inside : k < 2 * m) {p j : ℕ} {q' f' : List ℕ} (is : p ≡ partner k)
-      (put : (q' ≡ set q (4 * m + p) w) × (f' ≡ set f (p / 48) 1)) (then : j ≡ next_word m q' k) where
+  module _ {k : ℕ} {q : List ℕ} (s : SentTo m u w r k q) (inside : k < 2 * m) {p j : ℕ} {q' : List ℕ} (is : p ≡ partner k)
+      (put : q' ≡ set q (4 * m + p) w) (then : j ≡ next_word m q' k) where
     next : HeardFrom m r u (k + 1) (next_word m r k)
     next = subst (λ (v : ℕ). HeardFrom m r v (k + 1) (next_word m r k)) (s.own inside) (g.index.nexts k (omega arith) inside)
 
     room_is : q' ≡ set q (4 * m + partner k) w
-    room_is = put.0 ∙ ap (λ (i : ℕ). set q (4 * m + i) w) is
+    room_is = put ∙ ap (λ (i : ℕ). set q (4 * m + i) w) is
 
     next_is : j ≡ next_word m r k
     next_is =
-        then ∙ ap (λ (x : List ℕ). next_word m x k) room_is ∙ next_stays s.sent inside (s.own inside) g.flagged.room next
+        then ∙ ap (λ (x : List ℕ). next_word m x k) room_is ∙ next_stays s.sent inside (s.own inside) g.room next
 
     pub send_after : k < j
     send_after = omega (arith, next.after, next_is)
 
-    pub send_more : SentTo m u w r j q' f'
+    pub send_more : SentTo m u w r j q'
     send_more =
         record {
           bound = omega (arith, next.bound, next_is);
           own = rw next_is next.own;
-          sent = rw (next_is, room_is) (Sent-more s.sent inside (s.own inside) g.flagged.room next);
-          flagged = rw (put.0, put.1) (Flagged-put s.flagged p w (rw is (partner_in m k inside)));
+          sent = rw (next_is, room_is) (Sent-more s.sent inside (s.own inside) g.room next);
         }
 
-  pub send_all : {k : ℕ} {q f : List ℕ} → SentTo m u w r k q f → 2 * m ≤ k → Sent m u w (2 * m) r q × Flagged m q f
-  send_all {k} s h =
-      let all : k ≡ 2 * m = omega (arith, s.bound) in
-      (rw all at s.sent, s.flagged)
+pub send_all : {m u w : ℕ} {r : List ℕ} {k : ℕ} {q : List ℕ} → SentTo m u w r k q → 2 * m ≤ k → Sent m u w (2 * m) r q
+send_all {m} {u} {w} {r} {k} s h =
+    let all : k ≡ 2 * m = omega (arith, s.bound) in
+    rw all at s.sent

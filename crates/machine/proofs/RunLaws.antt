@@ -20,9 +20,9 @@ use Rattle.rules.proofs.MachineLaws.{deliver-Sound}
 use Rattle.rules.proofs.MachineRuns.{lowest-quiet}
 use Rattle.rules.proofs.MachineCounts.{deliver-Short}
 use Rattle.machine.specs.declared.Counts.{Counts}
-use Rattle.machine.specs.Room.{pair_of, wait_of, waiting_word, net_of, as_at, Flagged, Laid, Holds}
-use Rattle.machine.specs.Steps.{FirstWaiting, Searched, Delivered}
-use Rattle.machine.specs.Runs.{no_counts, Reached, Choosing, Chose, ChoseAll, WentOn}
+use Rattle.machine.specs.Room.{pair_of, wait_of, waiting_word, net_of, as_at, Laid, Holds}
+use Rattle.machine.specs.Steps.{NoneWaits, FirstWaits, Delivered}
+use Rattle.machine.specs.Runs.{no_counts, Reached, Chose, ChoseAll, WentOn}
 
 -- The definition, one more at the end ---------------------------------------------------------------------------------------
 
@@ -99,22 +99,22 @@ module _ {ws : List ℕ} {m : ℕ} {rest : List ℕ} {s : State} {t r : List ℕ
   waits_here : (k : ℕ) → k < 2 * m → waiting_word m r k ≢ 0 → s.waiting k ≡ waits (pair_of (waiting_word m r k))
   waits_here k i ne = sym (h.waiting k i) ∙ rw (ne_eqb (waiting_word m r k) 0 ne)
 
-  pub quiet_here : (k : ℕ) → FirstWaiting m r k → 2 * m ≤ k → lowest (net_of ws) s.waiting ≡ quiet
-  quiet_here k f g =
+  pub quiet_here : NoneWaits m r 0 (2 * m) → lowest (net_of ws) s.waiting ≡ quiet
+  quiet_here f =
       (lowest-quiet (net_of ws) s).1
       (λ a i.
       let range = numbered_range 0 (net_of ws) (arcs_Numbered 0 (links_of ws)) a i in
       let inside : a.direction < 2 * m = omega (arith, arcs_length 0 (links_of ws), l.links) in
-      idle_here a.direction inside (f.none a.direction (omega arith)))
+      idle_here a.direction inside (f.none a.direction (omega arith) inside inside))
 
-  pub lowest_here : (k : ℕ) → FirstWaiting m r k → k < 2 * m → lowest (net_of ws) s.waiting ≡ on k (pair_of (waiting_word m r k))
-  lowest_here k f g =
+  pub lowest_here : (k : ℕ) → FirstWaits m r 0 (2 * m) k → lowest (net_of ws) s.waiting ≡ on k (pair_of (waiting_word m r k))
+  lowest_here k f =
       lowest-on 0 (net_of ws) s.waiting (arcs_Numbered 0 (links_of ws)) k (pair_of (waiting_word m r k)) (omega arith)
-      (omega (arith, arcs_length 0 (links_of ws), l.links)) (λ j z i. idle_here j (omega arith) (f.none j i)) (waits_here k g (f.some g))
+      (omega (arith, arcs_length 0 (links_of ws), l.links, f.direction)) (λ j z i. idle_here j (omega (arith, f.direction)) (f.none j (omega arith) i)) (waits_here k f.direction f.some)
 
 -- One step of every run that is held -----------------------------------------------------------------------------------------
 
-module _ {ws : List ℕ} {m d k : ℕ} {t r t' r' f' : List ℕ} (g : Delivered ws m d k t r t' r' f') where
+module _ {ws : List ℕ} {m d k : ℕ} {t r t' r' : List ℕ} (g : Delivered ws m d k t r t' r') where
   Reached-on : {rest : List ℕ} {run : Run} {c : Counts} → Reached ws m d rest run c t r → c.made < 262144
       → (p : TypeLength) → run.state.waiting k ≡ waits p
       → Reached ws m d rest (delivered (net_of ws) (as_at ws d) k p run) (record { made = c.made + 1; idle = c.idle }) t' r'
@@ -131,73 +131,63 @@ module _ {ws : List ℕ} {m d k : ℕ} {t r t' r' f' : List ℕ} (g : Delivered 
         idle = h.idle;
       }
 
-module _ {ws : List ℕ} {m d k : ℕ} {c : Counts} {t r f : List ℕ} (g : Choosing ws m d k c t r f) where
-  pub Chose-idle : waiting_word m r k ≡ 0 → Chose ws m d k c t r (record { made = c.made; idle = c.idle + 1 }) t r f
+module _ {ws : List ℕ} {m d k : ℕ} {c : Counts} {t r : List ℕ} (laid : Laid ws m t r) (inside : k < 2 * m) where
+  pub Chose-idle : waiting_word m r k ≡ 0 → Chose ws m d k c t r (record { made = c.made; idle = c.idle + 1 }) t r
   Chose-idle e =
       record {
-        laid = g.laid;
-        flagged = g.flagged;
         counts = omega arith;
         after = λ rest run h.
-            rw (idle_here g.laid h.holds k g.direction e)
+            rw (idle_here laid h.holds k inside e)
             (record { holds = h.holds; sound = h.sound; short = h.short; made = h.made; idle = omega (arith, h.idle) });
       }
 
-  pub Chose-Delivered : waiting_word m r k ≢ 0 → {t' r' f' : List ℕ} → Delivered ws m d k t r t' r' f'
-      → Chose ws m d k c t r (record { made = c.made + 1; idle = c.idle }) t' r' f'
-  Chose-Delivered ne d' =
+  pub Chose-Delivered : waiting_word m r k ≢ 0 → c.made < 262144 → {t' r' : List ℕ} → Delivered ws m d k t r t' r'
+      → Chose ws m d k c t r (record { made = c.made + 1; idle = c.idle }) t' r'
+  Chose-Delivered ne few d' =
       record {
-        laid = d'.laid;
-        flagged = d'.flagged;
         counts = omega arith;
         after = λ rest run h.
-            let e = waits_here g.laid h.holds k g.direction ne in
-            rw e (Reached-on d' h (omega (arith, g.few)) (pair_of (waiting_word m r k)) e);
+            let e = waits_here laid h.holds k inside ne in
+            rw e (Reached-on d' h few (pair_of (waiting_word m r k)) e);
       }
 
 -- One choice more -------------------------------------------------------------------------------------------------------------
 
 module _ {ws : List ℕ} {m d : ℕ} {t r : List ℕ} where
-  pub chose_none : {f : List ℕ} → Laid ws m t r → Flagged m r f → ChoseAll ws m d [] t r no_counts t r f
+  pub chose_none : ChoseAll ws m d [] t r no_counts t r
   unfolding chosen
-  chose_none l g = record { laid = l; flagged = g; counts = refl; after = λ rest run h. h }
+  chose_none = record { counts = refl; after = λ rest run h. h }
 
-  pub Chose-more : (cs : List ℕ) (i : ℕ) {c : Counts} {u v f : List ℕ} → ChoseAll ws m d (take i cs) t r c u v f → i < length cs
-      → {k : ℕ} → k ≡ get_or cs i 0 → {c' : Counts} {u' v' f' : List ℕ} → Chose ws m d k c u v c' u' v' f'
-      → ChoseAll ws m d (take (i + 1) cs) t r c' u' v' f'
+  pub Chose-more : (cs : List ℕ) (i : ℕ) {c : Counts} {u v : List ℕ} → ChoseAll ws m d (take i cs) t r c u v → i < length cs
+      → {k : ℕ} → k ≡ get_or cs i 0 → {c' : Counts} {u' v' : List ℕ} → Chose ws m d k c u v c' u' v'
+      → ChoseAll ws m d (take (i + 1) cs) t r c' u' v'
   Chose-more cs i g h e s =
       record {
-        laid = s.laid;
-        flagged = s.flagged;
         counts = omega (arith, s.counts, g.counts, length-take-le i cs (omega arith), length-take-le (i + 1) cs (omega arith));
         after = λ rest run f. rw (chosen_more (net_of ws) (as_at ws d) cs i h run, ← e) (s.after rest _ (g.after rest run f));
       }
 
   -- One further delivery more -----------------------------------------------------------------------------------------------------
 
-  pub went_none : {f : List ℕ} → Laid ws m t r → Flagged m r f → (c : Counts) → WentOn ws m d 0 c t r c t r f
+  pub went_none : (c : Counts) → WentOn ws m d 0 c t r c t r
   unfolding further
-  went_none l g c = record { laid = l; flagged = g; after = λ rest run h. h }
+  went_none c = record { after = λ rest run h. h }
 
-  module _ {i : ℕ} {b c : Counts} {u v e : List ℕ} (g : WentOn ws m d i b t r c u v e) {k : ℕ} {f : List ℕ} (s : Searched m v k f) where
-    pub went_more : k < 2 * m → c.made < 262144 → {u' v' f' : List ℕ} → Delivered ws m d k u v u' v' f'
-        → WentOn ws m d (i + 1) b t r (record { made = c.made + 1; idle = c.idle }) u' v' f'
-    went_more h few p =
+  module _ {i : ℕ} {b c : Counts} {u v : List ℕ} (g : WentOn ws m d i b t r c u v) (laid : Laid ws m u v) where
+    pub went_more : {k : ℕ} → FirstWaits m v 0 (2 * m) k → c.made < 262144 → {u' v' : List ℕ} → Delivered ws m d k u v u' v'
+        → WentOn ws m d (i + 1) b t r (record { made = c.made + 1; idle = c.idle }) u' v'
+    went_more {k} s few p =
         record {
-          laid = p.laid;
-          flagged = p.flagged;
           after = λ rest run e.
               let now = g.after rest run e in
-              rw (further_more (net_of ws) (as_at ws d) i run k _ (lowest_here g.laid now.holds k s.first h))
-              (Reached-on p now few _ (waits_here g.laid now.holds k h (s.first.some h)));
+              rw (further_more (net_of ws) (as_at ws d) i run k _ (lowest_here laid now.holds k s))
+              (Reached-on p now few _ (waits_here laid now.holds k s.direction s.some));
         }
 
-    pub went_quiet : 2 * m ≤ k → {n : ℕ} → i ≤ n → WentOn ws m d n b t r c u v f
+    pub went_quiet : NoneWaits m v 0 (2 * m) → {n : ℕ} → i ≤ n → WentOn ws m d n b t r c u v
     went_quiet h {n} l =
         record {
-          laid = g.laid;
-          flagged = s.flagged;
           after = λ rest run e.
               let now = g.after rest run e in
-              rw (further-quiet (net_of ws) (as_at ws d) i n l run (quiet_here g.laid now.holds k s.first h)) now;
+              rw (further-quiet (net_of ws) (as_at ws d) i n l run (quiet_here laid now.holds h)) now;
         }

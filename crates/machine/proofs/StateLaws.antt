@@ -34,7 +34,7 @@ use Rattle.offers.specs.Steps.{Placed}
 use Rattle.offers.proofs.WayLaws.{WayArc}
 use Rattle.offers.proofs.TableLaws.{table_line, table_put}
 use Rattle.machine.specs.Room.{pair_word, pair_of, wait_of, place_word, held_word, waiting_word, net_of, ases_in, as_at, Laid, Holds}
-use Rattle.machine.specs.Steps.{Sent, held_over, ToldUnless, Took, Anew}
+use Rattle.machine.specs.Steps.{Sent, held_over, ToldUnless, Took}
 use Rattle.machine.proofs.IndexLaws.{partner_in, Indexed-same}
 use Rattle.machine.proofs.HeldLaws.{as_place, Laid-way, Laid-direction, Laid-arc}
 
@@ -135,6 +135,11 @@ pub own_line : {ws : List ℕ} {m : ℕ} {rest : List ℕ} {s : State} {t r : Li
 own_line {ws} {m} {rest} {s} g {u} h =
     ap (λ (q : List ℕ). entry_line q u) g.lines ∙ table_line s.lines rest (ases_of (links_of ws)) u h
 
+-- the AS at place u has elected anew, and told of a change
+pub record Anew (ws : List ℕ) (m : ℕ) (t r : List ℕ) (u : ℕ) (t' r' : List ℕ) : Type 0 where
+  pub after : (rest : List ℕ) (s : State) (d b : ℕ) → Holds ws m rest s t r → ((k : ℕ) → (s.held k).length ≤ b) → b + 1 < 268435456
+      → as_at ws u ≢ d → Holds ws m rest (elected (net_of ws) d (as_at ws u) s) t' r'
+
 -- An election ---------------------------------------------------------------------------------------------------------------
 
 -- the best offer is of type 1 to 4
@@ -163,16 +168,9 @@ most ws a i = omega (arith, arcs_cost (links_of ws) a i)
 
 module _ {ws : List ℕ} {m : ℕ} {t r : List ℕ} (l : Laid ws m t r) {u : ℕ} (h : u < ases_in ws) {o : Offered} where
   -- the line of an offer is taken, and told of or not
-  module _ {old : TypeLength} {t' r' f' : List ℕ} (is : old ≡ entry_pair t u) (took : Took m t r u old o t' r' f') where
+  module _ {old : TypeLength} {t' r' : List ℕ} (is : old ≡ entry_pair t u) (took : Took m t r u old o t' r') where
     told : ToldUnless (same_as (entry_pair t u) o.pair) m u (pair_word o.pair) r r'
     told = subst (λ (p : TypeLength). ToldUnless (same_as p o.pair) m u (pair_word o.pair) r r') is took.told
-
-    pub took_Laid : Laid ws m t' r'
-    took_Laid = rw took.line (go (same_as (entry_pair t u) o.pair) told)
-      where
-        go : (b : Bool) → ToldUnless b m u (pair_word o.pair) r r' → Laid ws m (with_line t u (line_of (as_offer o))) r'
-        go true same = rw same (Laid-Line l u (line_of (as_offer o)))
-        go false sent = Laid-room (Laid-Line l u (line_of (as_offer o))) r' sent.long (λ i g. sent.below i (omega arith)) sent.above
 
     -- in every state that table and room hold and in which the offer is elected
     module _ {rest : List ℕ} {s : State} (g : Holds ws m rest s t r)
@@ -233,10 +231,8 @@ module _ {ws : List ℕ} {m : ℕ} {t r : List ℕ} (l : Laid ws m t r) {u : ℕ
         b ∙ best_same (held_over m r) (λ a. s.held a.direction) (as_at ws u) (net_of ws)
         (λ a i e. g.held a.direction (omega (arith, numbered_range 0 (net_of ws) (arcs_Numbered 0 (links_of ws)) a i, arcs_length 0 (links_of ws), l.links)))
 
-    pub elected_Anew : {old : TypeLength} {t' r' f' : List ℕ} → old ≡ entry_pair t u → Took m t r u old o t' r' f' → Anew ws m t r u t' r' f'
+    pub elected_Anew : {old : TypeLength} {t' r' : List ℕ} → old ≡ entry_pair t u → Took m t r u old o t' r' → Anew ws m t r u t' r'
     elected_Anew is took =
         record {
-          laid = took_Laid is took;
-          flagged = took.flagged;
           after = λ rest s d c g short fits ne. took_Holds is took g (elects g) d c short fits ne;
         }

@@ -5,19 +5,19 @@
 --   fault_of_network, fault_of_memory  what is left of the verdict: 7, 8 and 13; 8 and 13
 --   NetworkAnswer, MemoryAnswer, RunAnswer   what is left to answer
 --   Looking, Located, Driving   an accepted list of links; with the destination's place; with memory and choices that pass
---   Driven ws m place cs n t c t' r' f'   table and room hold the whole run, which c counts
+--   Driven ws m place cs n t out t' r'   table and room hold the whole run, of which out says the counts and whether nothing waits
 use Rattle.rules.specs.Replies.{Verdict}
-use Rattle.std.specs.Prelude.{ℕ, ◌*◌, ◌≤◌, ◌<◌, ◌≡◌, List, length, get_or, take, drop, Ok, Result}
+use Rattle.std.specs.Prelude.{ℕ, ◌*◌, ◌≤◌, ◌<◌, ◌≡◌, List, length, get_or, drop, Ok, Result}
 use Rattle.rules.specs.declared.Limits.{Limits}
 use Rattle.rules.specs.Network.{links_of, ases_of}
 use Rattle.rules.specs.Checks.{needed_room}
 use Rattle.rules.specs.Entry.{and_then, fault_of_destination, fault_of_output, fault_of_room, cleared, filled}
 use Rattle.rules.specs.Stable.{table_of}
+use Rattle.rules.specs.Machine.{lowest, is_quiet}
 use Rattle.rules.specs.declared.Refusal.{Refusal}
 use Rattle.machine.specs.declared.Ran.{Ran}
-use Rattle.machine.specs.declared.Counts.{Counts}
 use Rattle.machine.specs.Entries.{fault_of_choices, run_on, reply_run, run_reply, final_table, final_room}
-use Rattle.machine.specs.Room.{ases_in, as_at, Flagged, Laid}
+use Rattle.machine.specs.Room.{net_of, ases_in, as_at}
 use Rattle.machine.specs.Runs.{Reached}
 use Rattle.machine.specs.Start.{Starting}
 
@@ -56,19 +56,17 @@ pub record Looking (ws cs : List ℕ) (n : ℕ) : Type 0 where
   pub few_choices : length cs ≤ 65536
   pub deliveries : n ≤ 65536
 
-pub record Located (ws list : List ℕ) (most place : ℕ) (cs : List ℕ) (n : ℕ) : Type 0 where
+pub record Located (ws ases : List ℕ) (place : ℕ) (cs : List ℕ) (n : ℕ) : Type 0 where
   pub looking : Looking ws cs n
-  pub listed : take most list ≡ ases_of (links_of ws)
-  pub count : most ≡ ases_in ws
-  pub destination : place < most
+  pub listed : ases ≡ ases_of (links_of ws)
+  pub destination : place < length ases
 
-pub record Driving (ws : List ℕ) (m : ℕ) (list : List ℕ) (most place : ℕ) (cs : List ℕ) (n : ℕ) (t r : List ℕ) : Type 0 where
-  pub starting : Starting ws m list most place t r
+pub record Driving (ws : List ℕ) (m : ℕ) (ases : List ℕ) (place : ℕ) (cs : List ℕ) (n : ℕ) (t r : List ℕ) : Type 0 where
+  pub starting : Starting ws m ases place t r
   pub directions : (i : ℕ) → i < length cs → get_or cs i 0 < 2 * m
   pub few_choices : length cs ≤ 65536
   pub deliveries : n ≤ 65536
 
-pub record Driven (ws : List ℕ) (m place : ℕ) (cs : List ℕ) (n : ℕ) (t : List ℕ) (c : Counts) (t' r' f' : List ℕ) : Type 0 where
-  pub laid : Laid ws m t' r'
-  pub flagged : Flagged m r' f'
-  pub reached : Reached ws m place (drop (4 * ases_in ws) t) (run_on ws (as_at ws place) cs n) c t' r'
+pub record Driven (ws : List ℕ) (m place : ℕ) (cs : List ℕ) (n : ℕ) (t : List ℕ) (out : Ran) (t' r' : List ℕ) : Type 0 where
+  pub reached : Reached ws m place (drop (4 * ases_in ws) t) (run_on ws (as_at ws place) cs n) (record { made = out.made; idle = out.idle }) t' r'
+  pub waits_not : out.quiet ≡ is_quiet (lowest (net_of ws) (run_on ws (as_at ws place) cs n).state.waiting)

@@ -1,7 +1,9 @@
 pub mod Entries
+pub mod Parts
 pub mod Room
 pub mod Index
 pub mod Steps
 pub mod Runs
+pub mod States
 pub mod Start
 pub mod Answers

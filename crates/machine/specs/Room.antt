@@ -4,8 +4,8 @@
 --   words 4m to 6m       waiting: the pair that waits on direction k, as one word, or 0
 --   words 6m to 8m       nexts: the next direction after k over which the same AS hears, or 2m
 --   words 8m to 8m + n   heads: the first direction over which the AS at place u hears, or 2m, for n ASes
--- The lines stand in the lent table. Beside the room stand 64 flags, one for each block of 48 directions:
---   word b               0 only where nothing waits on the directions 48b to 48b + 48
+-- The lines stand in the lent table. Beside them stand 64 flags, one for each block of 48 directions:
+--   flag b               false only where nothing waits on the directions 48b to 48b + 48
 --
 --   pair_word p        a pair as one word; pair_of w   and back
 --   wait_of w          what the word w on a direction says: nothing waits, or a pair does
@@ -13,12 +13,12 @@
 --   hearer_word r k    the place of who hears over direction k
 --   flag_at f k        the flag of direction k's block
 --   net_of ws, as_at ws i  the arcs of the link words ws, and their AS at place i
---   Flagged m r f      nothing waits in room r on a direction whose block has the flag 0 in f
+--   Flagged m r f      nothing waits in room r on a direction whose block has no flag in f
 --   HeardFrom m r u k j   j is the first direction from k on over which the AS at place u hears, or 2m
 --   Indexed m n k r    heads and nexts of room r are so, for n ASes and the directions from k on
 --   Laid ws m t r      table t has the numbers and room r the places and the index of the m links of ws
 --   Holds ws m rest s t r   table t, before the words rest, and room r hold the machine's state s
-use Rattle.std.specs.Prelude.{ℕ, ◌+◌, ◌*◌, ◌/◌, ◌%◌, ◌≤◌, ◌<◌, ◌≡◌, ◌≢◌, cond, List, ◌++◌, eqb, length, get_or}
+use Rattle.std.specs.Prelude.{ℕ, ◌+◌, ◌*◌, ◌/◌, ◌%◌, ◌≤◌, ◌<◌, ◌≡◌, ◌≢◌, Bool, false, cond, List, ◌++◌, eqb, length, get_or}
 use Rattle.rules.specs.declared.TypeLength.{TypeLength}
 use Rattle.rules.specs.Offers.{Arc}
 use Rattle.rules.specs.Network.{links_of, ases_of, arcs_of}
@@ -55,8 +55,8 @@ head_word m r u = get_or r (8 * m + u) 0
 abbrev pub hearer_word : List ℕ → ℕ → ℕ
 hearer_word r k = get_or r (partner k) 0
 
-abbrev pub flag_at : List ℕ → ℕ → ℕ
-flag_at f k = get_or f (k / 48) 0
+abbrev pub flag_at : List Bool → ℕ → Bool
+flag_at f k = get_or f (k / 48) false
 
 abbrev pub net_of : List ℕ → List Arc
 net_of ws = arcs_of (links_of ws)
@@ -67,11 +67,11 @@ ases_in ws = length (ases_of (links_of ws))
 abbrev pub as_at : List ℕ → ℕ → ℕ
 as_at ws i = get_or (ases_of (links_of ws)) i 0
 
-pub record Flagged (m : ℕ) (r f : List ℕ) : Type 0 where
+pub record Flagged (m : ℕ) (r : List ℕ) (f : List Bool) : Type 0 where
   pub few : m ≤ 1536
   pub flags : length f ≡ 64
   pub room : 6 * m ≤ length r
-  pub idle : (k : ℕ) → k < 2 * m → flag_at f k ≡ 0 → waiting_word m r k ≡ 0
+  pub idle : (k : ℕ) → k < 2 * m → flag_at f k ≡ false → waiting_word m r k ≡ 0
 
 pub record HeardFrom (m : ℕ) (r : List ℕ) (u k j : ℕ) : Type 0 where
   pub after : k ≤ j

@@ -2,16 +2,16 @@
 --
 --   Blank m j r r'     r' is r with nothing but unreachable held, and nothing waiting, on its first j directions
 --   Readying, Ready    the room of m links before and after: places, index, nothing but unreachable held, and nothing waiting
---   Starting           the ASes of m links in a list, the destination at a place among them, and memory for the machine
---   Started            table and room hold the fresh start
-use Rattle.std.specs.Prelude.{ℕ, ◌+◌, ◌*◌, ◌≤◌, ◌<◌, ◌≡◌, List, length, get_or, take, drop}
+--   Starting           the ASes of m links, the destination at a place among them, and memory for the machine
+--   LaidOut            table and room as they are before the destination tells its neighbours
+use Rattle.std.specs.Prelude.{ℕ, ◌+◌, ◌*◌, ◌≤◌, ◌<◌, ◌≡◌, List, ◌++◌, length, get_or, drop}
 use Rattle.rules.specs.Pairs.{unreachable_of}
 use Rattle.rules.specs.Network.{links_of, ases_of}
-use Rattle.rules.specs.Machine.{started}
+use Rattle.rules.specs.Stable.{table_of}
+use Rattle.offers.specs.Lines.{fresh_lines}
 use Rattle.offers.specs.Steps.{Placed}
 use Rattle.offers.specs.Placing.{Placing}
-use Rattle.machine.specs.Room.{pair_word, held_word, waiting_word, net_of, ases_in, as_at, Flagged, Indexed, Laid}
-use Rattle.machine.specs.Runs.{no_counts, Reached}
+use Rattle.machine.specs.Room.{pair_word, held_word, waiting_word, ases_in, as_at, Indexed, Laid}
 
 pub record Blank (m j : ℕ) (r r' : List ℕ) : Type 0 where
   pub long : length r' ≡ length r
@@ -19,8 +19,8 @@ pub record Blank (m j : ℕ) (r r' : List ℕ) : Type 0 where
   pub held : (k : ℕ) → k < j → held_word m r' k ≡ pair_word unreachable_of
   pub waiting : (k : ℕ) → k < j → waiting_word m r' k ≡ 0
 
-pub record Readying (ws : List ℕ) (m : ℕ) (list : List ℕ) (n : ℕ) (r : List ℕ) : Type 0 where
-  pub placing : Placing ws list n r
+pub record Readying (ws : List ℕ) (m : ℕ) (ases : List ℕ) (n : ℕ) (r : List ℕ) : Type 0 where
+  pub placing : Placing ws ases n r
   pub links : length (links_of ws) ≡ m
   pub few_links : m ≤ 1536
   pub room : 8 * m + n ≤ length r
@@ -31,18 +31,17 @@ pub record Ready (ws : List ℕ) (m : ℕ) (r : List ℕ) : Type 0 where
   pub held : (k : ℕ) → k < 2 * m → held_word m r k ≡ pair_word unreachable_of
   pub waiting : (k : ℕ) → k < 2 * m → waiting_word m r k ≡ 0
 
-pub record Starting (ws : List ℕ) (m : ℕ) (list : List ℕ) (n place : ℕ) (t r : List ℕ) : Type 0 where
+pub record Starting (ws : List ℕ) (m : ℕ) (ases : List ℕ) (place : ℕ) (t r : List ℕ) : Type 0 where
   pub links : length (links_of ws) ≡ m
   pub few_links : m ≤ 1536
   pub words : length ws ≡ 3 * m
-  pub listed : take n list ≡ ases_of (links_of ws)
-  pub count : n ≡ ases_in ws
-  pub few : n < 4294967296
-  pub destination : place < n
-  pub table : 4 * n ≤ length t
-  pub room : 8 * m + n ≤ length r
+  pub listed : ases ≡ ases_of (links_of ws)
+  pub few : length ases < 4294967296
+  pub destination : place < length ases
+  pub table : 4 * length ases ≤ length t
+  pub room : 8 * m + length ases ≤ length r
 
-pub record Started (ws : List ℕ) (m place : ℕ) (t t' r' f' : List ℕ) : Type 0 where
+pub record LaidOut (ws : List ℕ) (m place : ℕ) (t t' r' : List ℕ) : Type 0 where
   pub laid : Laid ws m t' r'
-  pub flagged : Flagged m r' f'
-  pub reached : Reached ws m place (drop (4 * ases_in ws) t) (started (net_of ws) (as_at ws place)) no_counts t' r'
+  pub lines : t' ≡ table_of (fresh_lines (as_at ws place)) (ases_of (links_of ws)) ++ drop (4 * ases_in ws) t
+  pub ready : Ready ws m r'

@@ -2,18 +2,14 @@
 ghost use Rattle.std.specs.Prelude.{◌+◌, ◌*◌, ◌≤◌, ◌≡◌, length};
 ghost use Rattle.machine.specs.Index.{Indexing, NoHeads, HasHead, with_direction, IndexLaid};
 
-use super::room;
+use super::room::{self, Part};
 
 // The first n ASes hear over no direction yet.
 fn lay_heads(room: &mut [u32], m: usize, n: usize)
     requires { (8 * m + n ≤ length room.old) × (m ≤ 1536) }
     ensures { NoHeads m n room.old room.new }
 {
-    let mut u = 0;
-    while u < n {
-        room::put_head(room, m, u, 2 * m);
-        u += 1;
-    }
+    room[8 * m..8 * m + n].fill(2 * m as u32);
 }
 
 // Direction k comes in front of those that its hearer hears over.
@@ -22,9 +18,9 @@ fn index_direction(room: &mut [u32], m: usize, k: usize)
     ensures { room.new ≡ with_direction m room.old k }
 {
     let u = room::hearer_at(room, k);
-    let head = room::head_at(room, m, u);
-    room::put_next(room, m, k, head);
-    room::put_head(room, m, u, k);
+    let head = room::word_at(room, m, Part::Heads, u);
+    room::put_word(room, m, Part::Nexts, k, head);
+    room::put_word(room, m, Part::Heads, u, k as u32);
 }
 
 // The whole index, from the last direction to the first.
@@ -33,9 +29,7 @@ pub fn lay_index(room: &mut [u32], m: usize, n: usize)
     ensures { IndexLaid m n 0 room.old room.new }
 {
     lay_heads(room, m, n);
-    let mut k = 2 * m;
-    while 0 < k {
-        k -= 1;
+    for k in (0..2 * m).rev() {
         index_direction(room, m, k);
     }
 }

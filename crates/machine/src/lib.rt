@@ -4,14 +4,15 @@
 ghost use Rattle.rules.specs.Checks.{base_limits};
 ghost use Rattle.machine.specs.Answers.{Answered};
 
+use network::Network;
 use rules::Refusal;
 
-mod blocks;
 mod index;
 mod look;
 mod room;
 mod runs;
 mod start;
+mod state;
 mod steps;
 
 // What a run gives: deliveries made, idle choices, quiet or not.
@@ -23,7 +24,7 @@ pub struct Ran {
 }
 
 // Deliveries made and idle choices so far.
-#[derive(Clone, Copy)]
+#[derive(Clone, Copy, Debug, PartialEq, Eq)]
 pub struct Counts {
     pub made: usize,
     pub idle: usize,
@@ -52,15 +53,6 @@ pub fn run(
     if MOST_DELIVERIES < further {
         return Err(Refusal::OverLimit);
     }
-    match network::check_links(words) {
-        Err(why) => Err(why),
-        Ok(_) => look::look_at_network(
-            words,
-            destination,
-            choices,
-            further,
-            table,
-            room,
-        ),
-    }
+    let net = Network::check(words)?;
+    look::look_at_network(net, destination, choices, further, table, room)
 }

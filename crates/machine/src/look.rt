@@ -1,134 +1,103 @@
 // The refusals in their order, each before a lent word is written, and then the run.
-ghost use Rattle.std.specs.Prelude.{◌≡◌, length};
+ghost use Rattle.std.specs.Prelude.{◌≡◌, ◌≤◌, length};
+ghost use Rattle.network.specs.Promises.{count_of};
 ghost use Rattle.machine.specs.Entries.{fault_of_choices};
-ghost use Rattle.machine.specs.Answers.{NetworkAnswer, MemoryAnswer, RunAnswer, Looking, Located, Driving, Driven};
+ghost use Rattle.machine.specs.Answers.{NetworkAnswer, MemoryAnswer, Located, Driving, Driven};
 
-use super::{Counts, Ran, blocks, room, runs, start};
-use network::WORDS_PER_LINK;
+use super::state::{BLOCKS, Machine};
+use super::{Ran, room, start};
+use network::Network;
 use offers::WORDS_PER_ENTRY;
-use rules::Refusal;
+use rules::{Refusal, TypeLength};
 
 // Refusal 13: the first choice that is no direction.
 fn choice_fault(choices: &[u32], directions: usize) -> Result<(), Refusal>
     ensures { result ≡ fault_of_choices directions choices.now }
 {
-    let mut i = 0;
-    while i < choices.len() {
-        if directions <= room::wide(choices[i]) {
+    for (i, k) in choices.iter().enumerate() {
+        if directions <= *k as usize {
             return Err(Refusal::NoDirection(i));
         }
-        i += 1;
     }
     Ok(())
 }
 
 // The run of an input that passes: the fresh start, the choices, the further deliveries.
 fn drive(
-    words: &[u32],
-    m: usize,
-    list: &[u32],
-    n: usize,
+    net: Network<'_>,
+    ases: &[u32],
     destination: usize,
     choices: &[u32],
     further: u32,
     table: &mut [u32],
     room: &mut [u32],
-    flags: &mut [u32; 64],
-) -> Counts
-    requires { Driving words.now m list.now n destination choices.now further table.old room.old × (length flags.old ≡ 64) }
-    ensures { Driven words.now m destination choices.now further table.old result table.new room.new flags.new }
+) -> Ran
+    requires { Driving net.words.now (count_of net.words.now) ases.now destination choices.now further table.old room.old }
+    ensures { Driven net.entry.words.now (count_of net.entry.words.now) destination choices.now further table.old result table.new room.new }
 {
-    start::fresh(words, m, list, n, destination, table, room, flags);
-    let chosen = runs::take_choices(words, m, destination, table, room, flags, choices);
-    runs::go_on(words, m, destination, table, room, flags, further, chosen)
-}
-
-// The same with its reply, and the room cleared.
-fn answer(
-    words: &[u32],
-    m: usize,
-    list: &[u32],
-    n: usize,
-    destination: usize,
-    choices: &[u32],
-    further: u32,
-    table: &mut [u32],
-    room: &mut [u32],
-) -> Result<Ran, Refusal>
-    requires { Driving words.now m list.now n destination choices.now further table.old room.old }
-    ensures { RunAnswer words.now destination choices.now further table.old room.old result table.new room.new }
-{
-    let mut flags = [0u32; 64];
-    let counts = drive(
-        words,
-        m,
-        list,
-        n,
+    let links = net.links();
+    start::lay_out(net.words, links, ases, destination, table, room);
+    let mut machine = Machine {
+        words: net.words,
+        links,
         destination,
-        choices,
-        further,
         table,
         room,
-        &mut flags,
-    );
-    let quiet = blocks::first_waiting(room, &mut flags, m) == 2 * m;
-    network::clear(room);
-    Ok(Ran { made: counts.made, idle: counts.idle, quiet })
+        flags: [false; BLOCKS],
+    };
+    machine.send(destination, room::pack_pair(TypeLength::ORIGIN));
+    let chosen = machine.take_choices(choices);
+    let counts = machine.go_on(further, chosen);
+    let quiet = machine.first_waiting().is_none();
+    Ran {
+        made: counts.made,
+        idle: counts.idle,
+        quiet,
+    }
 }
 
-// Refusals 8 and 13, with the destination at a place among the ASes.
+// Refusals 8 and 13, with the ASes and the destination's place among them.
 fn look_at_memory(
-    words: &[u32],
-    list: &[u32],
-    n: usize,
+    net: Network<'_>,
+    ases: &[u32],
     destination: usize,
     choices: &[u32],
     further: u32,
     table: &mut [u32],
     room: &mut [u32],
 ) -> Result<Ran, Refusal>
-    requires { Located words.now list.now n destination choices.now further }
-    ensures { MemoryAnswer words.now destination choices.now further table.old room.old result table.new room.new }
+    requires { Located net.words.now ases.now destination choices.now further }
+    ensures { MemoryAnswer net.entry.words.now destination choices.now further table.old room.old result table.new room.new }
 {
-    if table.len() < WORDS_PER_ENTRY * n {
+    if table.len() < WORDS_PER_ENTRY * ases.len() {
         return Err(Refusal::OutputShort);
     }
-    let m = words.len() / WORDS_PER_LINK;
-    if room.len() < network::room_need(m, n) {
+    let links = net.links();
+    if room.len() < network::room_need(links, ases.len()) {
         return Err(Refusal::RoomShort);
     }
-    match choice_fault(choices, 2 * m) {
-        Err(why) => Err(why),
-        Ok(()) => answer(
-            words,
-            m,
-            list,
-            n,
-            destination,
-            choices,
-            further,
-            table,
-            room,
-        ),
-    }
+    choice_fault(choices, 2 * links)?;
+    let ran = drive(net, ases, destination, choices, further, table, room);
+    room.fill(0);
+    Ok(ran)
 }
 
 // Refusals 7, 8 and 13 of an accepted list of links. The list of ASes holds 512.
 pub fn look_at_network(
-    words: &[u32],
+    net: Network<'_>,
     destination: u32,
     choices: &[u32],
     further: u32,
     table: &mut [u32],
     room: &mut [u32],
 ) -> Result<Ran, Refusal>
-    requires { Looking words.now choices.now further }
-    ensures { NetworkAnswer words.now destination choices.now further table.old room.old result table.new room.new }
+    requires { (length choices.now ≤ 65536) × (further ≤ 65536) }
+    ensures { NetworkAnswer net.entry.words.now destination choices.now further table.old room.old result table.new room.new }
 {
     let mut list = [0u32; 512];
-    let n = network::list_ases(words, &mut list);
+    let n = network::list_ases(net.words, &mut list);
     let Some(place) = network::place_of(&list, n, destination) else {
         return Err(Refusal::NoDestination);
     };
-    look_at_memory(words, &list, n, place, choices, further, table, room)
+    look_at_memory(net, &list[..n], place, choices, further, table, room)
 }

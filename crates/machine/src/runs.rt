@@ -1,85 +1,60 @@
 // A run: the choices one after the other, then the lowest waiting direction again and again.
-ghost use Rattle.machine.specs.Runs.{Choosing, Chose, ChoosingAll, ChoseAll, Going, WentOn};
+use super::Counts;
+use super::room::{self, Part};
+use super::state::Machine;
 
-use super::{Counts, blocks, room, steps};
+impl<'a> Machine<'a> {
+    ghost use Rattle.std.specs.Prelude.{ℕ, ◌+◌, ◌*◌, ◌≤◌, ◌<◌, length, get_or};
+    ghost use Rattle.machine.specs.States.{Stays, Chooses, ChoosesAll, GoesOn};
 
-// One choice: a delivery, or idle where nothing waits.
-fn take_choice(
-    words: &[u32],
-    m: usize,
-    destination: usize,
-    table: &mut [u32],
-    room: &mut [u32],
-    flags: &mut [u32; 64],
-    k: usize,
-    counts: Counts,
-) -> Counts
-    requires { Choosing words.now m destination k counts table.old room.old flags.old }
-    ensures { Chose words.now m destination k counts table.old room.old result table.new room.new flags.new }
-{
-    if room::waiting_at(room, m, k) == room::NOTHING {
-        let idle = counts.idle + 1;
-        return Counts {
-            made: counts.made,
-            idle,
-        };
-    }
-    steps::deliver(words, m, destination, table, room, flags, k);
-    let made = counts.made + 1;
-    Counts {
-        made,
-        idle: counts.idle,
-    }
-}
-
-// All choices, in their order.
-pub fn take_choices(
-    words: &[u32],
-    m: usize,
-    destination: usize,
-    table: &mut [u32],
-    room: &mut [u32],
-    flags: &mut [u32; 64],
-    choices: &[u32],
-) -> Counts
-    requires { ChoosingAll words.now m destination choices.now table.old room.old flags.old }
-    ensures { ChoseAll words.now m destination choices.now table.old room.old result table.new room.new flags.new }
-{
-    let mut counts = Counts { made: 0, idle: 0 };
-    let mut i = 0;
-    while i < choices.len() {
-        let k = room::wide(choices[i]);
-        counts = take_choice(words, m, destination, table, room, flags, k, counts);
-        i += 1;
-    }
-    counts
-}
-
-// So many further deliveries, the lowest waiting direction first, or fewer where nothing waits any more.
-pub fn go_on(
-    words: &[u32],
-    m: usize,
-    destination: usize,
-    table: &mut [u32],
-    room: &mut [u32],
-    flags: &mut [u32; 64],
-    further: u32,
-    counts: Counts,
-) -> Counts
-    requires { Going words.now m destination further counts table.old room.old flags.old }
-    ensures { WentOn words.now m destination further counts table.old room.old result table.new room.new flags.new }
-{
-    let idle = counts.idle;
-    let mut made = counts.made;
-    let mut i = 0;
-    while i < further {
-        let k = blocks::first_waiting(room, flags, m);
-        if 2 * m <= k {
-            return Counts { made, idle };
+    // One choice: a delivery, or idle where nothing waits.
+    fn take_choice(&mut self, k: usize, counts: Counts) -> Counts
+        requires direction { k < 2 * self.old.links }
+        requires few { counts.made + counts.idle < 131072 }
+        ensures stays { Stays self.old self.new }
+        ensures chooses { Chooses self.old k counts self.new result }
+    {
+        if self.word(Part::Waiting, k) == room::NOTHING {
+            return Counts {
+                idle: counts.idle + 1,
+                ..counts
+            };
         }
-        steps::deliver(words, m, destination, table, room, flags, k);
-        made += 1;
-        i += 1;
+        self.deliver(k);
+        Counts {
+            made: counts.made + 1,
+            ..counts
+        }
     }
-    Counts { made, idle }
+
+    // All choices, in their order.
+    pub fn take_choices(&mut self, choices: &[u32]) -> Counts
+        requires directions { (i : ℕ) → i < length choices.now → get_or choices.now i 0 < 2 * self.old.links }
+        requires few { length choices.now ≤ 65536 }
+        ensures stays { Stays self.old self.new }
+        ensures chooses { ChoosesAll self.old choices.now self.new result }
+    {
+        let mut counts = Counts { made: 0, idle: 0 };
+        for k in choices {
+            counts = self.take_choice(*k as usize, counts);
+        }
+        counts
+    }
+
+    // So many further deliveries, the lowest waiting direction first, or fewer where nothing waits any more.
+    pub fn go_on(&mut self, further: u32, mut counts: Counts) -> Counts
+        requires few { counts.made ≤ 65536 }
+        requires deliveries { further ≤ 65536 }
+        ensures stays { Stays self.old self.new }
+        ensures goes_on { GoesOn self.old further counts self.new result }
+    {
+        for _ in 0..further {
+            let Some(k) = self.first_waiting() else {
+                break;
+            };
+            self.deliver(k);
+            counts.made += 1;
+        }
+        counts
+    }
 }

@@ -1,5 +1,6 @@
 -- The limits and the check of the links are the first tests of the verdict; the rest is what the network's look answers.
-use Rattle.machine.proofs.AnswerLaws.{many_choices, many_deliveries, bad_links, may_look, good_links}
+use Rattle.std.proofs.Common.{◌≡◌, refl, rules}
+use Rattle.machine.proofs.AnswerLaws.{many_choices, many_deliveries, bad_links, good_links}
 use Rattle.machine.proofs.run.Goals as goal
 
 pub returns-then-choices-gt-MOST_CHOICES : goal.returns-then-choices-gt-MOST_CHOICES
@@ -8,15 +9,13 @@ returns-then-choices-gt-MOST_CHOICES c = many_choices _ _ _ _ _ _ c.if-choices-g
 pub returns-then-further-gt-MOST_DELIVERIES : goal.returns-then-further-gt-MOST_DELIVERIES
 returns-then-further-gt-MOST_DELIVERIES c = many_deliveries _ _ _ _ _ _ c.if-choices-gt-MOST_CHOICES.false c.if-further-gt-MOST_DELIVERIES.true
 
-pub look_at_network-requires : goal.look_at_network-requires
-look_at_network-requires c =
-    may_look c.args.words.now c.args.destination c.args.choices.now c.args.further c.args.table.now c.args.room.now
-    c.if-choices-gt-MOST_CHOICES.false c.if-further-gt-MOST_DELIVERIES.false c.check_links.ensures c.in-Ok.is
+pub returns-in_err-net : goal.returns-in_err-net
+returns-in_err-net c =
+    bad_links _ _ _ _ _ _ c.if-choices-gt-MOST_CHOICES.false c.if-further-gt-MOST_DELIVERIES.false refl c.in_err-net.ensures (search rules)
 
-pub returns-in-Err : goal.returns-in-Err
-returns-in-Err c = bad_links _ _ _ _ _ _ c.if-choices-gt-MOST_CHOICES.false c.if-further-gt-MOST_DELIVERIES.false c.check_links.ensures c.in-Err.is
-
-pub returns-in-Ok : goal.returns-in-Ok
-returns-in-Ok c =
-    good_links _ _ _ _ _ _ c.if-choices-gt-MOST_CHOICES.false c.if-further-gt-MOST_DELIVERIES.false c.check_links.ensures c.in-Ok.is
-    c.look_at_network.ensures
+pub returns : goal.returns
+returns c =
+    let same : c.in_ok-net.net.words.now ≡ c.args.words.now = c.in_ok-net.ensures in
+    let accepted = rw same at c.in_ok-net.net.accepted in
+    good_links _ _ _ _ _ _ c.if-choices-gt-MOST_CHOICES.false c.if-further-gt-MOST_DELIVERIES.false refl accepted
+    (rw same at c.look_at_network.ensures)

@@ -1,10 +1,6 @@
 -- What is left of the definition at choice i is the whole (`ChoicesTo`), one choice less each turn.
-use Rattle.std.proofs.Common.{◌-◌, ◌≤◌, length}
 use Rattle.machine.proofs.AnswerLaws.{ChoicesTo}
 use Rattle.machine.proofs.look.choice_fault.Given as goal
 
 abbrev pub invariant-loop-i : goal.invariant-loop-i
-invariant-loop-i l = (l.i ≤ length l.choices) × ChoicesTo l.directions l.choices l.i
-
-abbrev pub decreases-loop-i : goal.decreases-loop-i
-decreases-loop-i l = length l.choices - l.i
+invariant-loop-i l = ChoicesTo l.directions l.choices l.i
