@@ -3,16 +3,15 @@
 --   fault_of_findings  1; 2 to 6; 8 (room)
 --   findings_reply     customer ring or not, joined or not; or the refusal
 --   final_room         the lent room
-use Rattle.std.specs.Prelude.{ℕ, List, length}
+use Rattle.rules.specs.Replies.{Verdict}
+use Rattle.std.specs.Prelude.{ℕ, List, length, Err, Ok, Result}
 use Rattle.rules.specs.declared.Limits.{Limits}
-use Rattle.rules.specs.declared.Verdict.{Verdict}
-use Rattle.rules.specs.declared.Verdict.TheVariants.{Passes, Refused}
 use Rattle.rules.specs.Network.{links_of, ases_of}
 use Rattle.rules.specs.Checks.{needed_room}
 use Rattle.rules.specs.Entry.{and_then, fault_of_links, fault_of_room, cleared}
 use Rattle.rules.specs.Findings.{ringed, joined}
+use Rattle.rules.specs.declared.Refusal.{Refusal}
 use Rattle.findings.specs.declared.Found.{Found}
-use Rattle.findings.specs.declared.Found.TheVariants as found
 
 unfoldable pub fault_of_findings : Limits → List ℕ → ℕ → Verdict
 fault_of_findings limits ws room =
@@ -20,11 +19,11 @@ fault_of_findings limits ws room =
     and_then (fault_of_links limits ws) (fault_of_room (needed_room (length ls) (length (ases_of ls))) room)
 
 -- `ringed` and `joined` are the tests of `Ring` and `Joined`
-abbrev pub reply_findings : List ℕ → Verdict → Found
-reply_findings ws Passes = found.Found (ringed (links_of ws)) (joined (links_of ws))
-reply_findings ws (Refused r) = found.Refused r
+abbrev pub reply_findings : List ℕ → Verdict → Result Found Refusal
+reply_findings ws (Ok tt) = Ok (record { ring = (ringed (links_of ws)); joined = (joined (links_of ws)) })
+reply_findings ws (Err r) = Err r
 
-unfoldable pub findings_reply : Limits → List ℕ → ℕ → Found
+unfoldable pub findings_reply : Limits → List ℕ → ℕ → Result Found Refusal
 findings_reply limits ws room = reply_findings ws (fault_of_findings limits ws room)
 
 unfoldable pub final_room : Limits → List ℕ → List ℕ → List ℕ

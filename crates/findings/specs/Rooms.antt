@@ -12,8 +12,8 @@
 --   Within at n t u    u is t but for the n words from `at` on
 --   Filled at n v t u  u is t with v in these words
 --   AnySet t at n r    r says whether one of these words of t is 1
+use Rattle.rules.specs.Replies.{Verdict}
 use Rattle.std.specs.Prelude.{ℕ, ◌+◌, ◌*◌, ◌/◌, ◌≤◌, ◌<◌, ◌≡◌, ◌⊎◌, Bool, true, false, List, eqb, length, get_or}
-use Rattle.rules.specs.declared.Verdict.{Verdict}
 use Rattle.rules.specs.Network.{links_of, ases_of}
 use Rattle.rules.specs.Checks.{needed_room}
 use Rattle.rules.specs.Entry.{fault_of_room}

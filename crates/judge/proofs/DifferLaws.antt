@@ -7,9 +7,9 @@ use mathlib.Core.List.{List, [], ◌∷◌}
 use native.Mathlib.Numerals.{add-one}
 use native.Mathlib.Omega.{arith}
 use lib.ListN.{length, drop, length-drop}
+use Rattle.std.specs.Prelude.{Err, Ok}
+use Rattle.rules.specs.Replies.{Verdict}
 use Rattle.rules.specs.declared.Refusal.TheVariants.{NotBest}
-use Rattle.rules.specs.declared.Verdict.{Verdict}
-use Rattle.rules.specs.declared.Verdict.TheVariants.{Passes, Refused}
 use Rattle.rules.specs.Offers.{Arc}
 use Rattle.rules.specs.Stable.{Routing, due}
 use Rattle.rules.specs.Judge.{Entry, entries_of, entries_for, routing_of, is_same_line, best_from, best_offers}
@@ -22,11 +22,11 @@ abbrev pub differ_at : List ℕ → List ℕ → ℕ → Verdict
 differ_at t b i = differ_from i (entries_of (drop (4 * i) t)) (entries_of (drop (4 * i) b))
 
 pub differ_next : (t b : List ℕ) (i : ℕ) (e f : Entry) (r : Bool) → 4 * i + 4 ≤ length t → 4 * i + 4 ≤ length b → e ≡ entry_at t i → f ≡ entry_at b i
-    → r ≡ is_same_line e.line f.line → differ_at t b i ≡ cond r (differ_at t b (i + 1)) (Refused (NotBest i))
+    → r ≡ is_same_line e.line f.line → differ_at t b i ≡ cond r (differ_at t b (i + 1)) (Err (NotBest i))
 unfolding differ_from
 differ_next t b i e f r h g line other test = rw (entries_next t i h, entries_next b i g, add-one i, test, line, other)
 
-pub differ_end : (t b : List ℕ) (i : ℕ) → length t < 4 * i + 4 → differ_at t b i ≡ Passes
+pub differ_end : (t b : List ℕ) (i : ℕ) → length t < 4 * i + 4 → differ_at t b i ≡ Ok tt
 unfolding differ_from
 differ_end t b i h =
     let few : length (drop (4 * i) t) < 4 = simp length-drop (omega arith) in
@@ -39,7 +39,7 @@ module _ (net : List Arc) (d : ℕ) where
   unfolding differ_from entries_for best_from
   differ_due R Q i [] = refl
   differ_due R Q i (u ∷ us) =
-      ap (λ (v : Verdict). cond (is_same_line (R u) (due net d Q u)) v (Refused (NotBest i))) (differ_due R Q (suc i) us)
+      ap (λ (v : Verdict). cond (is_same_line (R u) (due net d Q u)) v (Err (NotBest i))) (differ_due R Q (suc i) us)
 
   pub differ_best : (es : List Entry) (us : List ℕ) → es ≡ entries_for (routing_of es) us
       → differ_from 0 es (entries_for (due net d (routing_of es)) us) ≡ best_offers net d es

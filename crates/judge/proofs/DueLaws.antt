@@ -7,8 +7,8 @@ use mathlib.Core.List.{List, [], ◌++◌, append-nil}
 use native.Mathlib.Omega.{arith}
 use lib.ListN.{length, get_or, take, drop}
 use lib.Seq.{take_all, take-length, take_at}
+use Rattle.rules.specs.Replies.{Verdict}
 use Rattle.rules.specs.declared.Link.{Link}
-use Rattle.rules.specs.declared.Verdict.{Verdict}
 use Rattle.rules.specs.Network.{links_of, ases_of, arcs_of}
 use Rattle.rules.specs.Stable.{Line, Routing, own, due, table_of}
 use Rattle.rules.specs.Judge.{Entry, entries_of, words_of, entries_for, routing_of, best_offers}

@@ -5,7 +5,7 @@ use mathlib.Core.List.{List}
 use native.Mathlib.Omega.{arith}
 use lib.ListN.{length, take}
 use lib.Seq.{take_at}
-use Rattle.rules.specs.declared.Checked.TheVariants.{Accepted}
+use Rattle.std.specs.Prelude.{Ok}
 use Rattle.rules.specs.Lists.{Distinct}
 use Rattle.rules.specs.Network.{links_of, ases_of}
 use Rattle.rules.specs.Checks.{base_limits, check_words}
@@ -23,7 +23,7 @@ pub record Counts (ws : List ℕ) (n : ℕ) : Type 0 where
   pub few_ases : n ≤ 512
   pub few_links : length (links_of ws) ≤ 1536
 
-module _ {ws : List ℕ} {n : ℕ} (e : check_words base_limits ws ≡ Accepted n) where
+module _ {ws : List ℕ} {n : ℕ} (e : check_words base_limits ws ≡ Ok n) where
   pub counts : Counts ws n
   counts =
       let a = (check_words-Accepted base_limits ws n e).1 in

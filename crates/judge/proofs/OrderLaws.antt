@@ -5,12 +5,12 @@ use mathlib.Core.List.{List}
 use lib.Dec.{leb}
 use lib.ListN.{length, replicate}
 use borrow.Author.Tests.{le-leb, lt-leb}
+use Rattle.std.specs.Prelude.{Err, Ok}
+use Rattle.rules.specs.Replies.{Verdict}
 use Rattle.rules.specs.declared.Link.{Link}
 use Rattle.rules.specs.declared.Limits.{Limits}
 use Rattle.rules.specs.declared.Refusal.{Refusal}
 use Rattle.rules.specs.declared.Refusal.TheVariants.{OverLimit, RoomShort}
-use Rattle.rules.specs.declared.Verdict.{Verdict}
-use Rattle.rules.specs.declared.Verdict.TheVariants.{Passes, Refused}
 use Rattle.rules.specs.Network.{links_of, ases_of, arcs_of}
 use Rattle.rules.specs.Checks.{needed_room}
 use Rattle.rules.specs.Entry.{and_then, unless, fault_of_links, fault_of_destination, fault_of_room, cleared}
@@ -27,10 +27,10 @@ unfolding fault_of_lines judge
 lines_in_order bound ls us s x v w e p q r = rw (p, q, r, e)
 
 -- 8
-pub room_short : (need have : ℕ) → have < need → Refused RoomShort ≡ fault_of_room need have
+pub room_short : (need have : ℕ) → have < need → Err RoomShort ≡ fault_of_room need have
 room_short need have h = rw (lt-leb need have h)
 
-pub room_enough : (need have : ℕ) → need ≤ have → Passes ≡ fault_of_room need have
+pub room_enough : (need have : ℕ) → need ≤ have → Ok tt ≡ fault_of_room need have
 room_enough need have h = rw (le-leb need have h)
 
 -- 8; 10; then these
@@ -40,10 +40,10 @@ unfolding fault_of_sheet
 sheet_in_order bound ls s room x v w p q r = rw (p, q, r)
 
 -- 1
-pub sheet_long : (limits : Limits) (s : List ℕ) → limits.sheet < length s → Refused OverLimit ≡ unless (leb (length s) limits.sheet) OverLimit
+pub sheet_long : (limits : Limits) (s : List ℕ) → limits.sheet < length s → Err OverLimit ≡ unless (leb (length s) limits.sheet) OverLimit
 sheet_long limits s h = rw (lt-leb (length s) limits.sheet h)
 
-pub sheet_fits : (limits : Limits) (s : List ℕ) → length s ≤ limits.sheet → Passes ≡ unless (leb (length s) limits.sheet) OverLimit
+pub sheet_fits : (limits : Limits) (s : List ℕ) → length s ≤ limits.sheet → Ok tt ≡ unless (leb (length s) limits.sheet) OverLimit
 sheet_fits limits s h = rw (le-leb (length s) limits.sheet h)
 
 -- 1; 2 to 6; then these
@@ -54,8 +54,8 @@ all_in_order limits bound ws s room x v w p q r = rw (p, q, r)
 
 -- the lent room after a refusal, and after a sheet that passes
 module _ (limits : Limits) (bound : ℕ) (ws s room : List ℕ) {v : Verdict} (e : v ≡ judge_reply limits bound ws s (length room)) where
-  pub Judged-refused : {r : Refusal} → v ≡ Refused r → Judged limits bound ws s room v room
+  pub Judged-refused : {r : Refusal} → v ≡ Err r → Judged limits bound ws s room v room
   Judged-refused {r} f = record { replies = e; zeroed = sym (ap (λ (x : Verdict). cleared x room) (sym e ∙ f)) }
 
-  pub Judged-passes : {zeros : List ℕ} → v ≡ Passes → zeros ≡ replicate (length room) 0 → Judged limits bound ws s room v zeros
+  pub Judged-passes : {zeros : List ℕ} → v ≡ Ok tt → zeros ≡ replicate (length room) 0 → Judged limits bound ws s room v zeros
   Judged-passes {zeros} f z = record { replies = e; zeroed = z ∙ sym (ap (λ (x : Verdict). cleared x room) (sym e ∙ f)) }

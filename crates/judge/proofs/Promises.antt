@@ -10,10 +10,10 @@ use native.Mathlib.Omega.{arith}
 use lib.Dec.{leb, eqb}
 use lib.ListN.{length, length-map}
 use borrow.Author.Tests.{le-leb}
+use Rattle.std.specs.Prelude.{Ok}
+use Rattle.rules.specs.Replies.{Verdict}
 use Rattle.rules.specs.declared.Limits.{Limits}
 use Rattle.rules.specs.declared.Refusal.TheVariants.{OverLimit, NoDestination}
-use Rattle.rules.specs.declared.Verdict.{Verdict}
-use Rattle.rules.specs.declared.Verdict.TheVariants.{Passes}
 use Rattle.rules.specs.Lists.{In, any_of}
 use Rattle.rules.specs.Network.{links_of, ases_of, arcs_of}
 use Rattle.rules.specs.Checks.{base_limits, needed_room}
@@ -46,7 +46,7 @@ pub record Accepts (ws s : List ℕ) : Type 0 where
   pub lines : lines_of s ≡ stable_lines ws (destination_of s)
   pub bytes : Below 256 s → s ≡ stable_sheet ws (destination_of s)
 
-pub judge_Accepts : (limits : Limits) (bound : ℕ) (ws s : List ℕ) (room : ℕ) → judge_reply limits bound ws s room ≡ Passes → Accepts ws s
+pub judge_Accepts : (limits : Limits) (bound : ℕ) (ws s : List ℕ) (room : ℕ) → judge_reply limits bound ws s room ≡ Ok tt → Accepts ws s
 unfolding judge_reply
 judge_Accepts limits bound ws s room e =
     let ls = links_of ws in
@@ -57,7 +57,7 @@ judge_Accepts limits bound ws s room e =
     let form = (both_pass (fault_of_room (needed_room (length ls) (length us)) room) _ rooms).1 in
     let dest = both_pass (fault_of_form s) _ form in
     let last = both_pass (fault_of_destination d us) _ dest.1 in
-    let has : In d us = member_is d us (test_passes (any_of (eqb d) us) Passes NoDestination last.0).0 in
+    let has : In d us = member_is d us (test_passes (any_of (eqb d) us) (Ok tt) NoDestination last.0).0 in
     let lines = passing_only ls d has bound (lines_of s) last.1 in
     record { named = has; lines = lines; bytes = λ b. sym (sheet_read s b dest.0) ∙ ap (sheet_of d) lines }
 
@@ -68,12 +68,12 @@ pub record Ready (limits : Limits) (bound : ℕ) (ws : List ℕ) (d room : ℕ) 
   pub fits : SheetLimits limits bound
   pub longest : limits.ases - 1 ≤ bound
   pub words : Below 4294967296 ws
-  pub links : fault_of_links limits ws ≡ Passes
+  pub links : fault_of_links limits ws ≡ Ok tt
   pub named : In d (ases_of (links_of ws))
   pub enough : needed_room (length (links_of ws)) (length (ases_of (links_of ws))) ≤ room
 
 pub judge_stable : (limits : Limits) (bound : ℕ) (ws : List ℕ) (d room : ℕ) → Ready limits bound ws d room
-    → judge_reply limits bound ws (stable_sheet ws d) room ≡ Passes
+    → judge_reply limits bound ws (stable_sheet ws d) room ≡ Ok tt
 unfolding judge_reply
 judge_stable limits bound ws d room r =
     let ls = links_of ws in
@@ -92,8 +92,8 @@ judge_stable limits bound ws d room r =
 
 -- exactly one
 pub one_sheet_passes : (limits : Limits) (bound : ℕ) (ws : List ℕ) (d room : ℕ) → Ready limits bound ws d room
-    → (s : List ℕ) × (judge_reply limits bound ws s room ≡ Passes)
-    × ((r : List ℕ) → Below 256 r → destination_of r ≡ d → judge_reply limits bound ws r room ≡ Passes → r ≡ s)
+    → (s : List ℕ) × (judge_reply limits bound ws s room ≡ Ok tt)
+    × ((r : List ℕ) → Below 256 r → destination_of r ≡ d → judge_reply limits bound ws r room ≡ Ok tt → r ≡ s)
 one_sheet_passes limits bound ws d room ready = (
   stable_sheet ws d,
   judge_stable limits bound ws d room ready,
@@ -101,7 +101,7 @@ one_sheet_passes limits bound ws d room ready = (
 )
 
 -- with the limits of document 01
-pub ready : (ws : List ℕ) (d room : ℕ) → Below 4294967296 ws → fault_of_links base_limits ws ≡ Passes → In d (ases_of (links_of ws))
+pub ready : (ws : List ℕ) (d room : ℕ) → Below 4294967296 ws → fault_of_links base_limits ws ≡ Ok tt → In d (ases_of (links_of ws))
     → needed_room (length (links_of ws)) (length (ases_of (links_of ws))) ≤ room → Ready base_limits 511 ws d room
 ready ws d room b e has enough =
     record { fits = base_fits; longest = omega arith; words = b; links = e; named = has; enough = enough }

@@ -9,9 +9,9 @@ use lib.Dec.{eqb}
 use lib.ListN.{length, take, drop}
 use lib.Seq.{take_all, take_at}
 use borrow.Author.Tests.{eqb-true, eqb-false}
+use Rattle.std.specs.Prelude.{Ok}
+use Rattle.rules.specs.Replies.{Verdict}
 use Rattle.rules.specs.declared.Refusal.TheVariants.{CannotStand}
-use Rattle.rules.specs.declared.Verdict.{Verdict}
-use Rattle.rules.specs.declared.Verdict.TheVariants.{Passes}
 use Rattle.rules.specs.Lists.{In, Distinct}
 use Rattle.rules.specs.Entry.{and_then, unless}
 use Rattle.rules.specs.Judge.{Entry, entries_of, words_of, entries_for, routing_of, stands, standing_from, standing}
@@ -40,7 +40,7 @@ by_counts bound us s k h = rw (← lines_take k (count_of_lines s) (drop 10 s) (
     go true e =
         let same = eqb-true (count_of_lines s) (length us) e in
         let all = length-lines_from (count_of_lines s) (drop 10 s) in
-        rw (take_all k us (omega arith), take_all k es (omega arith)) (then_passes (standing bound us es) Passes (λ _. refl))
+        rw (take_all k us (omega arith), take_all k es (omega arith)) (then_passes (standing bound us es) (Ok tt) (λ _. refl))
     go false e =
         let place : 0 + k ≡ k = omega arith in
         let all = length-lines_from (count_of_lines s) (drop 10 s) in
@@ -63,7 +63,7 @@ lines_judged bound us s k old {t} {v} h e f =
 
 -- Lines that stand ---------------------------------------------------------------------------------------------------------
 
-standing_short : (bound i : ℕ) (us : List ℕ) (es : List Entry) → standing_from bound i us es ≡ Passes → (e : Entry) → In e es → e.line.pair.length ≤ bound
+standing_short : (bound i : ℕ) (us : List ℕ) (es : List Entry) → standing_from bound i us es ≡ Ok tt → (e : Entry) → In e es → e.line.pair.length ≤ bound
 unfolding standing_from
 standing_short bound i [] [] p e m = elim m [ ]
 standing_short bound i (u ∷ us) [] p e m = elim m [ ]
@@ -72,7 +72,7 @@ standing_short bound i (u ∷ us) (x ∷ es) p e m =
     let t = test_passes (stands bound u x) (standing_from bound (suc i) us es) (CannotStand i) p in
     ⊎_elim (λ q. rw q (stands_is bound u x t.0).short) (standing_short bound (suc i) us es t.1 e) m
 
-pub standing-Told : (bound : ℕ) → bound < 4294967295 → (us : List ℕ) → Distinct us → (es : List Entry) → standing bound us es ≡ Passes → Told us (words_of es)
+pub standing-Told : (bound : ℕ) → bound < 4294967295 → (us : List ℕ) → Distinct us → (es : List Entry) → standing bound us es ≡ Ok tt → Told us (words_of es)
 standing-Told bound low us apart es p =
     let R = routing_of es in
     let named : lines.numbers es ≡ us = standing_numbers bound 0 us es p in
@@ -87,7 +87,7 @@ standing-Told bound low us apart es p =
     }
 
 -- once they stand, all of them were read
-pub all_read : (bound : ℕ) (us s old : List ℕ) {t : List ℕ} → standing bound us (lines_of s) ≡ Passes
+pub all_read : (bound : ℕ) (us s old : List ℕ) {t : List ℕ} → standing bound us (lines_of s) ≡ Ok tt
     → t ≡ over (words_of (lines_from (min (length us) (count_of_lines s)) (drop 10 s))) old → take (4 * length us) t ≡ words_of (lines_of s)
 all_read bound us s old {t} p e =
     let same : count_of_lines s ≡ length us = sym (length-lines_from (count_of_lines s) (drop 10 s)) ∙ same_count bound 0 us (lines_of s) p in

@@ -1,7 +1,7 @@
 -- What the judge replies and leaves in the lent room, for every input: the whole promise in one record.
+use Rattle.rules.specs.Replies.{Verdict}
 use Rattle.std.specs.Prelude.{ℕ, ◌≡◌, List, length}
 use Rattle.rules.specs.declared.Limits.{Limits}
-use Rattle.rules.specs.declared.Verdict.{Verdict}
 use Rattle.rules.specs.Entry.{cleared}
 use Rattle.sheet.specs.Entries.{judge_reply}
 

@@ -6,11 +6,10 @@
 --   Network ws us            us are the ASes of the links ws, and both fit the judge's own arrays
 --   Told us t                the words t are a line for each of the ASes us, whose length leaves room for one link more
 --   with_due ls d t us b     the table b with the lines that are due at the ASes us where the others are told by t
-use Rattle.std.specs.Prelude.{ℕ, suc, ◌*◌, ◌≤◌, ◌<◌, ◌≡◌, cond, List, [], ◌∷◌, ◌++◌, length, drop}
+use Rattle.rules.specs.Replies.{Verdict}
+use Rattle.std.specs.Prelude.{ℕ, suc, ◌*◌, ◌≤◌, ◌<◌, ◌≡◌, cond, List, [], ◌∷◌, ◌++◌, length, drop, Err, Ok}
 use Rattle.rules.specs.declared.Link.{Link}
 use Rattle.rules.specs.declared.Refusal.TheVariants.{NotBest}
-use Rattle.rules.specs.declared.Verdict.{Verdict}
-use Rattle.rules.specs.declared.Verdict.TheVariants.{Passes, Refused}
 use Rattle.rules.specs.Lists.{In}
 use Rattle.rules.specs.Network.{links_of, ases_of, arcs_of}
 use Rattle.rules.specs.Checks.{needed_room}
@@ -28,9 +27,9 @@ fault_of_sheet bound ls s room =
     and_then (fault_of_room (needed_room (length ls) (length (ases_of ls))) room) (and_then (fault_of_form s) (fault_of_lines bound ls s))
 
 unfoldable pub differ_from : ℕ → List Entry → List Entry → Verdict
-differ_from i [] fs = Passes
-differ_from i (e ∷ es) [] = Passes
-differ_from i (e ∷ es) (f ∷ fs) = cond (is_same_line e.line f.line) (differ_from (suc i) es fs) (Refused (NotBest i))
+differ_from i [] fs = Ok tt
+differ_from i (e ∷ es) [] = Ok tt
+differ_from i (e ∷ es) (f ∷ fs) = cond (is_same_line e.line f.line) (differ_from (suc i) es fs) (Err (NotBest i))
 
 pub record Network (ws us : List ℕ) : Type 0 where
   pub ases : us ≡ ases_of (links_of ws)

@@ -5,12 +5,12 @@ ghost use Rattle.rules.specs.Judge.{entries_of, is_same_line, best_offers};
 ghost use Rattle.sheet.specs.Places.{entry_of};
 ghost use Rattle.judge.specs.Steps.{differ_from, Network, Told, with_due};
 
-use rules::{Refusal, TypeLength, Verdict};
+use rules::{Refusal, TypeLength};
 use sheet::rows;
 use sheet::rows::{Row, WORDS_PER_LINE};
 
 // Refusal 12 of the lines told, one for each AS, for the destination at a place of the ASes.
-pub fn judge_offers(words: &[u32], ases: &[u32], told: &[u32], at: usize) -> Verdict
+pub fn judge_offers(words: &[u32], ases: &[u32], told: &[u32], at: usize) -> Result<(), Refusal>
     requires { Network words.now ases.now × Told ases.now told.now × (at < length ases.now) }
     ensures { result ≡ best_offers (arcs_of (links_of words.now)) (get_or ases.now at 0) (entries_of told.now) }
 {
@@ -32,7 +32,7 @@ fn put_due(words: &[u32], ases: &[u32], told: &[u32], at: usize, best: &mut [u32
 }
 
 // The lowest line told that is not the one due.
-fn first_difference(told: &[u32], best: &[u32]) -> Verdict
+fn first_difference(told: &[u32], best: &[u32]) -> Result<(), Refusal>
     requires { length best.now ≡ length told.now }
     ensures { result ≡ differ_from 0 (entries_of told.now) (entries_of best.now) }
 {
@@ -42,10 +42,10 @@ fn first_difference(told: &[u32], best: &[u32]) -> Verdict
         if same_line(rows::row_at(told, i), rows::row_at(best, i)) {
             i += 1;
         } else {
-            return Verdict::Refused(Refusal::NotBest(i));
+            return Err(Refusal::NotBest(i));
         }
     }
-    Verdict::Passes
+    Ok(())
 }
 
 // The same type, length and next hop.

@@ -7,7 +7,7 @@ ghost use Rattle.std.specs.Prelude.{◌≤◌, IfOk, length};
 use findings::Found;
 use network::WORDS_PER_LINK;
 use report::REPORT_BYTES;
-use rules::Checked;
+use rules::Refusal;
 use std::fs::File;
 use std::io;
 use std::io::{Read, Write};
@@ -18,10 +18,10 @@ fn say(rt: &impl Print, word: &str, number: u64) -> io::Result<()> {
 }
 
 // What is accepted, or number and place of the refusal.
-fn say_reply(rt: &impl Print, word: &str, reply: Checked) -> io::Result<()> {
+fn say_reply(rt: &impl Print, word: &str, reply: Result<usize, Refusal>) -> io::Result<()> {
     match reply {
-        Checked::Accepted(n) => say(rt, word, n as u64),
-        Checked::Refused(why) => {
+        Ok(n) => say(rt, word, n as u64),
+        Err(why) => {
             say(rt, "refused", why.number() as u64)?;
             say(rt, "place", why.place() as u64)
         }
@@ -33,8 +33,8 @@ fn say_room(rt: &impl Print, words: &[u32], need: usize) -> io::Result<()> {
     let mut room = [0u32; 16384];
     if need <= room.len() {
         match findings::find(words, &mut room[..need]) {
-            Found::Found(_, _) => say(rt, "room", need as u64)?,
-            Found::Refused(why) => {
+            Ok(_) => say(rt, "room", need as u64)?,
+            Err(why) => {
                 say(rt, "refused", why.number() as u64)?;
                 say(rt, "place", why.place() as u64)?;
             }
@@ -59,7 +59,7 @@ fn say_rooms(rt: &impl Print, words: &[u32], ases: usize) -> io::Result<()> {
 fn say_links(rt: &impl Print, words: &[u32]) -> io::Result<()> {
     let checked = network::check_links(words);
     say_reply(rt, "ases", checked)?;
-    let Checked::Accepted(n) = checked else {
+    let Ok(n) = checked else {
         return Ok(());
     };
     say_rooms(rt, words, n)
@@ -81,7 +81,7 @@ fn say_text(rt: &impl Print, text: &[u8]) -> io::Result<()> {
     let mut words = [0u32; 4608];
     let read = linktext::reading::read_text(text, &mut words);
     say_reply(rt, "links", read)?;
-    let Checked::Accepted(m) = read else {
+    let Ok(m) = read else {
         return Ok(());
     };
     say_ases(rt, &words, m)

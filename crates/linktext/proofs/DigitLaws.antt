@@ -13,10 +13,11 @@ use lib.Dec.{ltb, leb, eqb}
 use lib.ListN.{length, length-append}
 use lib.Seq.{append_snoc}
 use borrow.Author.Tests.{ltb-true, ltb-false, leb-true, eqb-false, not-true, lt-ltb, le-ltb, le-leb, ne_eqb}
+use Rattle.std.specs.Prelude.{Err, Ok, Result}
 use Rattle.rules.specs.Lists.{all_of}
 use Rattle.rules.proofs.Tests.{by_cond, and_left, and_right, clash}
-use Rattle.linktext.specs.declared.Numeral.{Numeral}
-use Rattle.linktext.specs.declared.Numeral.TheVariants.{Value, NoForm, OverLarge}
+use Rattle.linktext.specs.declared.NumeralFault.{NumeralFault}
+use Rattle.linktext.specs.declared.NumeralFault.TheVariants.{NoForm, OverLarge}
 use Rattle.linktext.specs.Lines.{digit0, digit9, is_decimal_digit, value_from, is_in_form, numeral_of}
 use Rattle.linktext.specs.Texts.{digits, decimal}
 
@@ -121,7 +122,7 @@ Spells-form {n} {f} (one h e) = rw e (digit_test (digit0 + n) (omega arith) (ome
 Spells-form {n} {f} (more m d g p q s e w) = Formed-form n f (Spells-Formed (more m d g p q s e w)) (omega arith)
 
 -- a field reads as the number that it spells
-pub Spells-numeral : {n : ℕ} {f : List ℕ} → Spells n f → n ≤ 4294967295 → numeral_of f ≡ Value n
+pub Spells-numeral : {n : ℕ} {f : List ℕ} → Spells n f → n ≤ 4294967295 → numeral_of f ≡ Ok n
 unfolding numeral_of
 Spells-numeral {n} {f} s h = simp (Spells-form s, Spells-value s, le-leb n 4294967295 h)
 
@@ -161,20 +162,20 @@ pub record Numbered (f : List ℕ) (n : ℕ) : Type 0 where
   pub small : n ≤ 4294967295
 
 -- and a field spells the number as which it reads
-pub numeral_spells : (f : List ℕ) (n : ℕ) → numeral_of f ≡ Value n → Numbered f n
+pub numeral_spells : (f : List ℕ) (n : ℕ) → numeral_of f ≡ Ok n → Numbered f n
 unfolding numeral_of
 numeral_spells f n =
-    by_cond (λ (x : Numeral). x ≡ Value n → Numbered f n) (is_in_form f) _ _
-    (λ e. by_cond (λ (x : Numeral). x ≡ Value n → Numbered f n) (leb (value_from 0 f) 4294967295) _ _ (λ b v. numbered e (leb-true (value_from 0 f) 4294967295 b) (cc)) (λ b v. absurd (never v)))
+    by_cond (λ (x : Result ℕ NumeralFault). x ≡ Ok n → Numbered f n) (is_in_form f) _ _
+    (λ e. by_cond (λ (x : Result ℕ NumeralFault). x ≡ Ok n → Numbered f n) (leb (value_from 0 f) 4294967295) _ _ (λ b v. numbered e (leb-true (value_from 0 f) 4294967295 b) (cc)) (λ b v. absurd (never v)))
     (λ e v. absurd (nought v))
   where
     numbered : is_in_form f ≡ true → value_from 0 f ≤ 4294967295 → value_from 0 f ≡ n → Numbered f n
     numbered e b v = record { spells = rw v at (form_Spells f e); small = rw v at b }
 
-    never : OverLarge ≡ Value n → ⊥
+    never : Err OverLarge ≡ Ok n → ⊥
     never v = clash (cc)
 
-    nought : NoForm ≡ Value n → ⊥
+    nought : Err NoForm ≡ Ok n → ⊥
     nought v = clash (cc)
 
 -- ---- a number of 32 bits in decimal

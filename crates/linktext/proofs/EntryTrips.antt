@@ -11,10 +11,10 @@ use native.Mathlib.Omega.{arith}
 use lib.Dec.{ltb}
 use lib.ListN.{length}
 use borrow.Author.Tests.{eq-eqb, le-ltb, ltb-false}
+use Rattle.std.specs.Prelude.{Ok}
+use Rattle.rules.specs.Replies.{Verdict}
 use Rattle.rules.specs.declared.Link.{Link}
 use Rattle.rules.specs.declared.Limits.{Limits}
-use Rattle.rules.specs.declared.Verdict.{Verdict}
-use Rattle.rules.specs.declared.Verdict.TheVariants.{Passes}
 use Rattle.rules.specs.Lists.{In}
 use Rattle.rules.specs.Network.{links_of, flat}
 use Rattle.rules.proofs.Tests.{by_cond, clash}
@@ -34,15 +34,15 @@ ends_small (a ∷ b ∷ []) h l m = absurd m
 ends_small (a ∷ b ∷ r ∷ ws) h l m =
     ⊎_elim (λ e. rw e (h a (inl refl), h b (inr (inl refl)))) (ends_small ws (λ x k. h x (inr (inr (inr k)))) l) m
 
-relations_small : (i : ℕ) (ls : List Link) → fault_of_relations i ls ≡ Passes → (l : Link) → In l ls → l.relation ≤ 1
+relations_small : (i : ℕ) (ls : List Link) → fault_of_relations i ls ≡ Ok tt → (l : Link) → In l ls → l.relation ≤ 1
 unfolding fault_of_relations
 relations_small i [] e l m = absurd m
 relations_small i (k ∷ ls) e l m =
-    by_cond (λ (v : Verdict). v ≡ Passes → l.relation ≤ 1) (ltb 1 k.relation) _ _ (λ b w. clash (cc))
+    by_cond (λ (v : Verdict). v ≡ Ok tt → l.relation ≤ 1) (ltb 1 k.relation) _ _ (λ b w. clash (cc))
     (λ b w. ⊎_elim (λ q. rw q (ltb-false 1 k.relation b)) (relations_small (suc i) ls w l) m)
     e
 
-pub written_reads : (limits : Limits) (ws : List ℕ) → ((x : ℕ) → In x ws → x < 4294967296) → fault_of_text limits ws ≡ Passes
+pub written_reads : (limits : Limits) (ws : List ℕ) → ((x : ℕ) → In x ws → x < 4294967296) → fault_of_text limits ws ≡ Ok tt
     → length (text_of (links_of ws)) ≤ limits.text → text_in limits (text_of (links_of ws)) ≡ links (links_of ws)
 written_reads limits ws h e b = read_write limits (links_of ws) plain (passes_count limits ws e) b
   where
@@ -53,12 +53,12 @@ written_reads limits ws h e b = read_write limits (links_of ws) plain (passes_co
 
 -- ---- read, then written
 
-plain_passes : (i : ℕ) (ls : List Link) → ((l : Link) → In l ls → Plain l) → fault_of_relations i ls ≡ Passes
+plain_passes : (i : ℕ) (ls : List Link) → ((l : Link) → In l ls → Plain l) → fault_of_relations i ls ≡ Ok tt
 unfolding fault_of_relations
 plain_passes i [] p = refl
 plain_passes i (l ∷ ls) p = simp (le-ltb 1 l.relation (p l (inl refl)).third, plain_passes (suc i) ls (λ k m. p k (inr m)))
 
-pub read_passes : (limits : Limits) (t : List ℕ) (ls : List Link) → text_in limits t ≡ links ls → fault_of_text limits (flat ls) ≡ Passes
+pub read_passes : (limits : Limits) (t : List ℕ) (ls : List Link) → text_in limits t ≡ links ls → fault_of_text limits (flat ls) ≡ Ok tt
 unfolding fault_of_text
 read_passes limits t ls e =
     simp

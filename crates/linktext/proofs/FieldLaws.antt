@@ -11,11 +11,12 @@ use lib.ListN.{length, get_or, take, drop}
 use types.Run.{OneOf}
 use denote.Enum.Declared.{tag_of}
 use borrow.Author.Tests.{eq-eqb, ne_eqb}
+use Rattle.std.specs.Prelude.{Err, Ok, Result}
 use Rattle.linktext.specs.declared.Reason.TheVariants.{Empty, NoNumber, NoRelation, FurtherBar}
 use Rattle.linktext.specs.declared.LineRead.{LineRead}
 use Rattle.linktext.specs.declared.LineRead.TheVariants.{Skip, Reads, Faulty}
-use Rattle.linktext.specs.declared.Numeral.{Numeral}
-use Rattle.linktext.specs.declared.Numeral.TheVariants.{Value, NoForm, OverLarge}
+use Rattle.linktext.specs.declared.NumeralFault.{NumeralFault}
+use Rattle.linktext.specs.declared.NumeralFault.TheVariants.{NoForm, OverLarge}
 use Rattle.linktext.specs.declared.line.Relation.{Relation}
 use Rattle.linktext.specs.declared.line.Relation.TheVariants.{Is, Unknown}
 use Rattle.linktext.specs.Lines.{hash, before_bar, numeral_of, Related, unrelated, related, relation_of, read_from_third, read_from_second, read_from_first, read_of_line}
@@ -32,23 +33,23 @@ read unrelated r e = cc
 read (related s) r e = cc
 
 -- a numeral that is no value, by its tag
-abbrev pub NoValue : Numeral → Type 0
+abbrev pub NoValue : Result ℕ NumeralFault → Type 0
 NoValue n = OneOf (1 ∷ 2 ∷ []) (tag_of the_type n)
 
-pub no_value : (n : Numeral) → ((x : ℕ) → n ≡ Value x → ⊥) → NoValue n
-no_value (Value b) h = absurd (h b refl)
-no_value NoForm h = inl refl
-no_value OverLarge h = inr refl
+pub no_value : (n : Result ℕ NumeralFault) → ((x : ℕ) → n ≡ Ok x → ⊥) → NoValue n
+no_value (Ok b) h = absurd (h b refl)
+no_value (Err NoForm) h = inl refl
+no_value (Err OverLarge) h = inr refl
 
-first_fault : (l : List ℕ) (n : Numeral) → NoValue n → fault_of_number 1 n ≡ read_from_first l n
-first_fault l (Value b) h = absurd (⊎_elim (λ e. omega arith) (λ e. omega arith) h)
-first_fault l NoForm h = refl
-first_fault l OverLarge h = refl
+first_fault : (l : List ℕ) (n : Result ℕ NumeralFault) → NoValue n → fault_of_number 1 n ≡ read_from_first l n
+first_fault l (Ok b) h = absurd (⊎_elim (λ e. omega arith) (λ e. omega arith) h)
+first_fault l (Err NoForm) h = refl
+first_fault l (Err OverLarge) h = refl
 
-second_fault : (a at : ℕ) (l : List ℕ) (n : Numeral) → NoValue n → fault_of_number at n ≡ read_from_second a at l n
-second_fault a at l (Value b) h = absurd (⊎_elim (λ e. omega arith) (λ e. omega arith) h)
-second_fault a at l NoForm h = refl
-second_fault a at l OverLarge h = refl
+second_fault : (a at : ℕ) (l : List ℕ) (n : Result ℕ NumeralFault) → NoValue n → fault_of_number at n ≡ read_from_second a at l n
+second_fault a at l (Ok b) h = absurd (⊎_elim (λ e. omega arith) (λ e. omega arith) h)
+second_fault a at l (Err NoForm) h = refl
+second_fault a at l (Err OverLarge) h = refl
 
 module _ (a b : ℕ) {l : List ℕ} {from end : ℕ} (K : Cut l from end) {x : Relation} (e : x ≡ relation_read (relation_of (take (end - from) (drop from l)))) where
   field_3 : {y : Relation} → x ≡ y → y ≡ relation_read (relation_of (before_bar (drop from l)))
@@ -67,7 +68,7 @@ module _ (a b : ℕ) {l : List ℕ} {from end : ℕ} (K : Cut l from end) {x : R
       → Reads (record { a = a; b = b; relation = r }) ≡ read_from_third a b (from + 1) (drop from l) (relation_of (before_bar (drop from l)))
   third_ends {r} p h = rw (read (relation_of (before_bar (drop from l))) r (field_3 p), K.last h)
 
-module _ (a : ℕ) {l : List ℕ} {from end : ℕ} (K : Cut l from end) {n : Numeral} (e : n ≡ numeral_of (take (end - from) (drop from l))) where
+module _ (a : ℕ) {l : List ℕ} {from end : ℕ} (K : Cut l from end) {n : Result ℕ NumeralFault} (e : n ≡ numeral_of (take (end - from) (drop from l))) where
   field_2 : n ≡ numeral_of (before_bar (drop from l))
   field_2 = e ∙ ap numeral_of K.field
 
@@ -76,18 +77,18 @@ module _ (a : ℕ) {l : List ℕ} {from end : ℕ} (K : Cut l from end) {n : Num
   second_no q h = q ∙ rw (← field_2) (second_fault a (from + 1) (drop from l) n h)
 
   pub second_goes : {b : ℕ} {x : LineRead} → x ≡ read_from_third a b (end + 1 + 1) (drop (end + 1) l) (relation_of (before_bar (drop (end + 1) l)))
-      → n ≡ Value b → end < length l → x ≡ read_from_second a (from + 1) (drop from l) (numeral_of (before_bar (drop from l)))
+      → n ≡ Ok b → end < length l → x ≡ read_from_second a (from + 1) (drop from l) (numeral_of (before_bar (drop from l)))
   second_goes {b} q p h =
       let at : end + 1 + 1 ≡ from + 1 + length (before_bar (drop from l)) + 1 = omega (arith, K.long) in
       q ∙ rw (sym field_2 ∙ p, K.more h, at)
 
-  pub second_ends : {b : ℕ} → n ≡ Value b → length l ≤ end
+  pub second_ends : {b : ℕ} → n ≡ Ok b → length l ≤ end
       → Faulty (NoRelation (end + 1)) ≡ read_from_second a (from + 1) (drop from l) (numeral_of (before_bar (drop from l)))
   second_ends {b} p h =
       let at : end + 1 ≡ from + 1 + length (before_bar (drop from l)) + 1 - 1 = omega (arith, K.long) in
       rw (sym field_2 ∙ p, K.last h) (ap (λ (n : ℕ). Faulty (NoRelation n)) at)
 
-module _ {l : List ℕ} {end : ℕ} (K : Cut l 0 end) {n : Numeral} (e : n ≡ numeral_of (take end l)) where
+module _ {l : List ℕ} {end : ℕ} (K : Cut l 0 end) {n : Result ℕ NumeralFault} (e : n ≡ numeral_of (take end l)) where
   field_1 : n ≡ numeral_of (before_bar l)
   field_1 =
       let z : end ≡ end - 0 = omega arith in
@@ -97,12 +98,12 @@ module _ {l : List ℕ} {end : ℕ} (K : Cut l 0 end) {n : Numeral} (e : n ≡ n
   first_no q h = q ∙ rw (← field_1) (first_fault l n h)
 
   pub first_goes : {a : ℕ} {x : LineRead} → x ≡ read_from_second a (end + 1 + 1) (drop (end + 1) l) (numeral_of (before_bar (drop (end + 1) l)))
-      → n ≡ Value a → end < length l → x ≡ read_from_first l (numeral_of (before_bar l))
+      → n ≡ Ok a → end < length l → x ≡ read_from_first l (numeral_of (before_bar l))
   first_goes {a} q p h =
       let at : end + 1 + 1 ≡ length (before_bar l) + 2 = omega (arith, K.long) in
       q ∙ rw (sym field_1 ∙ p, K.more h, at)
 
-  pub first_ends : {a : ℕ} → n ≡ Value a → length l ≤ end → Faulty (NoNumber (end + 1)) ≡ read_from_first l (numeral_of (before_bar l))
+  pub first_ends : {a : ℕ} → n ≡ Ok a → length l ≤ end → Faulty (NoNumber (end + 1)) ≡ read_from_first l (numeral_of (before_bar l))
   first_ends {a} p h =
       let at : end + 1 ≡ length (before_bar l) + 2 - 1 = omega (arith, K.long) in
       rw (sym field_1 ∙ p, K.last h) (ap (λ (n : ℕ). Faulty (NoNumber n)) at)

@@ -11,13 +11,14 @@ use native.Mathlib.Omega.{arith}
 use lib.Dec.{eqb}
 use lib.ListN.{length}
 use borrow.Author.Tests.{eqb-true, ne_eqb}
+use Rattle.std.specs.Prelude.{Err, Ok, Result}
 use Rattle.rules.specs.declared.Link.{Link}
 use Rattle.rules.specs.Lists.{all_of, Without}
 use Rattle.rules.proofs.Tests.{by_cond, and_left, and_right, clash}
 use Rattle.linktext.specs.declared.LineRead.{LineRead}
 use Rattle.linktext.specs.declared.LineRead.TheVariants.{Reads}
-use Rattle.linktext.specs.declared.Numeral.{Numeral}
-use Rattle.linktext.specs.declared.Numeral.TheVariants.{Value, NoForm, OverLarge}
+use Rattle.linktext.specs.declared.NumeralFault.{NumeralFault}
+use Rattle.linktext.specs.declared.NumeralFault.TheVariants.{NoForm, OverLarge}
 use Rattle.linktext.specs.Lines.{hash, minus, bar, digit0, digit9, is_decimal_digit, numeral_of, before_bar, After, ends, rest, after_bar, Related, related, unrelated, relation_of, read_end, read_from_third, third_field, read_from_second, second_field, read_from_first, read_of_line}
 use Rattle.linktext.specs.Texts.{decimal, relation_text}
 use Rattle.linktext.specs.Plain.{Plain, line_body}
@@ -193,10 +194,10 @@ Second-joins a at l k e = go (numeral_of (before_bar l)) refl e
           text = rw (t.second, t.text, Spells-digits 9 h.spells (omega (arith, h.small))) (bar_joins l m f);
         }
 
-    go : (x : Numeral) → numeral_of (before_bar l) ≡ x → read_from_second a at l x ≡ Reads k → Second a l k
-    go NoForm h w = clash (cc)
-    go OverLarge h w = clash (cc)
-    go (Value b) h w = end b (numeral_spells (before_bar l) b h) (after_bar l) refl w
+    go : (x : Result ℕ NumeralFault) → numeral_of (before_bar l) ≡ x → read_from_second a at l x ≡ Reads k → Second a l k
+    go (Err NoForm) h w = clash (cc)
+    go (Err OverLarge) h w = clash (cc)
+    go (Ok b) h w = end b (numeral_spells (before_bar l) b h) (after_bar l) refl w
 
 -- a line that reads as a link is the link's, and no comment
 pub record LineOf (k : Link) (l : List ℕ) : Type 0 where
@@ -216,10 +217,10 @@ first_joins l k e = go (numeral_of (before_bar l)) refl e
           text = rw (t.first, t.text, Spells-digits 9 h.spells (omega (arith, h.small))) (bar_joins l m f);
         }
 
-    go : (x : Numeral) → numeral_of (before_bar l) ≡ x → read_from_first l x ≡ Reads k → LineOf k l
-    go NoForm h w = clash (cc)
-    go OverLarge h w = clash (cc)
-    go (Value a) h w = end a (numeral_spells (before_bar l) a h) (after_bar l) refl w
+    go : (x : Result ℕ NumeralFault) → numeral_of (before_bar l) ≡ x → read_from_first l x ≡ Reads k → LineOf k l
+    go (Err NoForm) h w = clash (cc)
+    go (Err OverLarge) h w = clash (cc)
+    go (Ok a) h w = end a (numeral_spells (before_bar l) a h) (after_bar l) refl w
 
 pub reads_line : (l : List ℕ) (k : Link) → read_of_line l ≡ Reads k → LineOf k l
 unfolding read_of_line

@@ -15,10 +15,11 @@ use lib.Dec.{leb, eqb}
 use lib.ListN.{length, get_or, drop}
 use lib.Seq.{drop-cons}
 use borrow.Author.Tests.{leb-true, eq-eqb, ne_eqb, le-leb, lt-leb}
+use Rattle.std.specs.Prelude.{Err, Ok}
 use Rattle.rules.specs.Lists.{all_of}
 use Rattle.rules.proofs.Tests.{and_left, and_right}
 use Rattle.rules.proofs.ListLaws.{all_of_each, at_in}
-use Rattle.linktext.specs.declared.Numeral.TheVariants.{Value, NoForm, OverLarge}
+use Rattle.linktext.specs.declared.NumeralFault.TheVariants.{NoForm, OverLarge}
 use Rattle.linktext.specs.Lines.{digit0, minus, is_decimal_digit, value_from, is_in_form, numeral_of, relation_of, related, unrelated}
 use Rattle.linktext.specs.Fields.{capped}
 
@@ -74,7 +75,7 @@ unfolding value_from
 value_grows [] v = omega arith
 value_grows (x ∷ l) v = omega (arith, value_grows l (10 * v + (x - digit0)))
 
-pub numeral_none : (l : List ℕ) → is_in_form l ≡ false → numeral_of l ≡ NoForm
+pub numeral_none : (l : List ℕ) → is_in_form l ≡ false → numeral_of l ≡ Err NoForm
 unfolding numeral_of
 numeral_none l e = rw e
 
@@ -84,15 +85,15 @@ capped_over most w h = simp (add-one, lt-leb w most h)
 pub capped_under : (most w : ℕ) → w ≤ most → w ≡ capped most w
 capped_under most w h = simp (le-leb w most h)
 
-capped_same : (most w : ℕ) → cond (leb w most) (Value w) OverLarge ≡ cond (leb (capped most w) most) (Value (capped most w)) OverLarge
+capped_same : (most w : ℕ) → cond (leb w most) (Ok w) (Err OverLarge) ≡ cond (leb (capped most w) most) (Ok (capped most w)) (Err OverLarge)
 capped_same most w = go (leb w most) refl
   where
-    go : (t : Bool) → leb w most ≡ t → cond t (Value w) OverLarge ≡ cond (leb (cond t w (suc most)) most) (Value (cond t w (suc most))) OverLarge
+    go : (t : Bool) → leb w most ≡ t → cond t (Ok w) (Err OverLarge) ≡ cond (leb (cond t w (suc most)) most) (Ok (cond t w (suc most))) (Err OverLarge)
     go true e = simp e
     go false e = simp (lt-leb (suc most) most (omega arith))
 
 pub numeral_form : (l : List ℕ) (v : ℕ) → is_in_form l ≡ true → v ≡ capped 4294967295 (value_from 0 l)
-    → numeral_of l ≡ cond (leb v 4294967295) (Value v) OverLarge
+    → numeral_of l ≡ cond (leb v 4294967295) (Ok v) (Err OverLarge)
 unfolding numeral_of
 numeral_form l v e c = rw (e, c) (capped_same 4294967295 (value_from 0 l))
 

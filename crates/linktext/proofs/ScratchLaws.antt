@@ -12,10 +12,9 @@ use native.Mathlib.Omega.{arith}
 use lib.ListN.{length, get_or, take, drop, set, length-append}
 use lib.Seq.{sets, sets-eq, set_at, take_at, take-suc, drop-cons, drop-append-add, drop-drop, append_snoc, length-take-le}
 use borrow.Author.Tests.{lt-ltb, le-ltb}
+use Rattle.std.specs.Prelude.{Err, Ok, Result}
 use Rattle.rules.specs.declared.Link.{Link}
 use Rattle.rules.specs.declared.Refusal.{Refusal}
-use Rattle.rules.specs.declared.Checked.{Checked}
-use Rattle.rules.specs.declared.Checked.TheVariants.{Accepted, Refused}
 use Rattle.rules.specs.Network.{flat}
 use Rattle.rules.proofs.Tests.{clash}
 use Rattle.rules.proofs.NetworkLaws.{flat-length}
@@ -65,7 +64,7 @@ pub record Got (x : TextRead) (n : ℕ) (ws : List ℕ) : Type 0 where
   pub room : 3 * n ≤ length ws
   pub words : take (3 * n) ws ≡ flat list
 
-pub got : (x : TextRead) (old ws : List ℕ) (r : Checked) (n : ℕ) → ReadInto x old ws r → r ≡ Accepted n → Got x n ws
+pub got : (x : TextRead) (old ws : List ℕ) (r : Result ℕ Refusal) (n : ℕ) → ReadInto x old ws r → r ≡ Ok n → Got x n ws
 got (links ls) old ws r n (p, q) e =
     let c : length ls ≡ n = cc in
     let len = flat-length ls in
@@ -78,6 +77,6 @@ got (links ls) old ws r n (p, q) e =
     }
 got (refused why) old ws r n p e = clash (cc)
 
-pub lost : (x : TextRead) (old ws : List ℕ) (r : Checked) (why : Refusal) → ReadInto x old ws r → r ≡ Refused why → x ≡ refused why
+pub lost : (x : TextRead) (old ws : List ℕ) (r : Result ℕ Refusal) (why : Refusal) → ReadInto x old ws r → r ≡ Err why → x ≡ refused why
 lost (links ls) old ws r why (p, q) e = cc
 lost (refused why') old ws r why p e = cc

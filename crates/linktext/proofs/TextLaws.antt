@@ -11,12 +11,13 @@ use native.Mathlib.Omega.{arith}
 use lib.Dec.{ltb, eqb}
 use lib.ListN.{length, length-append}
 use borrow.Author.Tests.{eq-eqb, ne_eqb}
+use Rattle.std.specs.Prelude.{Err, Ok, Result}
 use Rattle.rules.specs.declared.Link.{Link}
 use Rattle.rules.specs.Lists.{Without}
 use Rattle.rules.proofs.Tests.{by_cond, clash}
 use Rattle.linktext.specs.declared.LineRead.TheVariants.{Skip, Reads}
-use Rattle.linktext.specs.declared.Numeral.{Numeral}
-use Rattle.linktext.specs.declared.Numeral.TheVariants.{Value, NoForm, OverLarge}
+use Rattle.linktext.specs.declared.NumeralFault.{NumeralFault}
+use Rattle.linktext.specs.declared.NumeralFault.TheVariants.{NoForm, OverLarge}
 use Rattle.linktext.specs.Lines.{lf, hash, minus, bar, digit0, numeral_of, before_bar, After, ends, rest, after_bar, Related, related, unrelated, relation_of, read_end, read_from_third, third_field, read_from_second, second_field, read_from_first, read_of_line}
 use Rattle.linktext.specs.Texts.{lines_of, digits, decimal, relation_text, line_text, text_of, keep_line}
 use Rattle.linktext.specs.Plain.{Plain, line_body}
@@ -106,15 +107,15 @@ second_stays : (a at : ℕ) (y : After) → second_field a at y ≡ Skip → ⊥
 second_stays a at ends e = clash (cc)
 second_stays a at (rest l) e = go (numeral_of (before_bar l)) e
   where
-    go : (x : Numeral) → read_from_second a at l x ≡ Skip → ⊥
-    go NoForm w = clash (cc)
-    go OverLarge w = clash (cc)
-    go (Value b) w = third_stays a b (at + length (before_bar l) + 1) (after_bar l) w
+    go : (x : Result ℕ NumeralFault) → read_from_second a at l x ≡ Skip → ⊥
+    go (Err NoForm) w = clash (cc)
+    go (Err OverLarge) w = clash (cc)
+    go (Ok b) w = third_stays a b (at + length (before_bar l) + 1) (after_bar l) w
 
-first_stays : (l : List ℕ) (x : Numeral) → read_from_first l x ≡ Skip → ⊥
-first_stays l NoForm e = clash (cc)
-first_stays l OverLarge e = clash (cc)
-first_stays l (Value a) e = second_stays a (length (before_bar l) + 2) (after_bar l) e
+first_stays : (l : List ℕ) (x : Result ℕ NumeralFault) → read_from_first l x ≡ Skip → ⊥
+first_stays l (Err NoForm) e = clash (cc)
+first_stays l (Err OverLarge) e = clash (cc)
+first_stays l (Ok a) e = second_stays a (length (before_bar l) + 2) (after_bar l) e
 
 pub skip_left : (l t : List ℕ) → read_of_line l ≡ Skip → keep_line l t ≡ t
 unfolding read_of_line

@@ -16,9 +16,9 @@ use lib.ListN.{length, drop, length-append, length-set, drop_of_length-le}
 use types.Run.{OneOf}
 use denote.Enum.Declared.{tag_of}
 use borrow.Author.Tests.{le-leb, lt-leb}
+use Rattle.std.specs.Prelude.{Err, Ok}
 use Rattle.rules.specs.declared.Link.{Link}
 use Rattle.rules.specs.declared.Refusal.TheVariants.{OverLimit, Unreadable}
-use Rattle.rules.specs.declared.Checked.TheVariants.{Accepted, Refused}
 use Rattle.rules.specs.Network.{flat}
 use Rattle.linktext.specs.declared.LineRead.{LineRead}
 use Rattle.linktext.specs.declared.LineRead.TheVariants.{Skip, Reads, Faulty}
@@ -70,7 +70,7 @@ begins t old most h =
     }
 
 pub ends_all : {t old ws : List ℕ} {most at line n : ℕ} → Held t old most at line n ws → length t ≤ at
-    → ReadInto (text_read_from most 0 1 (lines_of t)) old ws (Accepted n)
+    → ReadInto (text_read_from most 0 1 (lines_of t)) old ws (Ok n)
 unfolding text_read_from lines_of
 ends_all {t} {old} {ws} {most} {at} {line} {n} H h =
     let whole : text_read_from most 0 1 (lines_of t) ≡ links H.done =
@@ -121,10 +121,10 @@ module _ {t old ws : List ℕ} {most at line n end : ℕ} {r : LineRead} (T : Tu
       (sym (ap (λ (ls : List (List ℕ)). behind T.held.done (text_read_from most n line ls)) (first_line_lem t at end T.more T.given.stop)) ∙ T.held.rest)
 
   pub stops_bad : NoSkip r → NoLink r
-      → ReadInto (text_read_from most 0 1 (lines_of t)) old ws (Refused (Unreadable line))
+      → ReadInto (text_read_from most 0 1 (lines_of t)) old ws (Err (Unreadable line))
   stops_bad p q = rw (sym (turn refl) ∙ ap (behind T.held.done) (bad_line most n line further r p q)) refl
 
-  pub stops_over : {l : Link} → r ≡ Reads l → most ≤ n → ReadInto (text_read_from most 0 1 (lines_of t)) old ws (Refused OverLimit)
+  pub stops_over : {l : Link} → r ≡ Reads l → most ≤ n → ReadInto (text_read_from most 0 1 (lines_of t)) old ws (Err OverLimit)
   stops_over {l} p k =
       let full : take_line most n line further (Reads l) ≡ refused OverLimit = simp (le-leb most n k) in
       rw (sym (turn p) ∙ ap (behind T.held.done) full) refl

@@ -9,10 +9,10 @@ use mathlib.Core.List.{List}
 use native.Mathlib.Omega.{arith}
 use lib.ListN.{length, take}
 use borrow.Author.Tests.{eq-eqb}
+use Rattle.std.specs.Prelude.{Err}
 use Rattle.rules.specs.declared.Link.{Link}
 use Rattle.rules.specs.declared.Limits.{Limits}
 use Rattle.rules.specs.declared.Refusal.{Refusal}
-use Rattle.rules.specs.declared.Verdict.TheVariants.{Refused}
 use Rattle.rules.specs.Network.{flat, links_of}
 use Rattle.rules.specs.Checks.{check_links, check_words}
 use Rattle.rules.specs.Entry.{fault_of_links}
@@ -27,7 +27,7 @@ module _ (limits : Limits) where
   check_flat ls = rw (eq-eqb (length (flat ls) % 3) 0 (omega (arith, flat-length ls)), links_of-flat)
 
   module _ (t : List ℕ) where
-    pub lost_fault : {why : Refusal} → text_in limits t ≡ refused why → fault_of_network limits t ≡ Refused why
+    pub lost_fault : {why : Refusal} → text_in limits t ≡ refused why → fault_of_network limits t ≡ Err why
     unfolding fault_of_network
     lost_fault e = rw e
 

@@ -6,9 +6,9 @@ use native.Mathlib.Numerals.{add-one}
 use native.Mathlib.Omega.{arith}
 use lib.ListN.{length, length-append}
 use borrow.Author.Tests.{lt-ltb, le-ltb, eq-eqb, ne_eqb}
+use Rattle.std.specs.Prelude.{Err, Ok}
 use Rattle.rules.specs.declared.Limits.{Limits}
 use Rattle.rules.specs.declared.Refusal.TheVariants.{OverLimit, NoRelation}
-use Rattle.rules.specs.declared.Verdict.TheVariants.{Passes, Refused}
 use Rattle.rules.specs.Network.{links_of, link_in_words}
 use Rattle.linktext.specs.Texts.{line_text, text_of, fault_of_relations, fault_of_text}
 use Rattle.network.specs.Prefix.{links_from}
@@ -16,7 +16,7 @@ use Rattle.network.proofs.PrefixLaws.{count, links_next, links_end}
 
 -- ---- the first link without a relation
 
-pub fault_here : (ws : List ℕ) (i : ℕ) → i < length ws / 3 → 1 < (link_in_words ws i).relation → fault_of_relations i (links_from ws i) ≡ Refused (NoRelation i)
+pub fault_here : (ws : List ℕ) (i : ℕ) → i < length ws / 3 → 1 < (link_in_words ws i).relation → fault_of_relations i (links_from ws i) ≡ Err (NoRelation i)
 unfolding fault_of_relations
 fault_here ws i h b = ap (fault_of_relations i) (links_next ws i (omega arith)) ∙ simp (lt-ltb 1 (link_in_words ws i).relation b)
 
@@ -25,7 +25,7 @@ pub fault_later : (ws : List ℕ) (i : ℕ) → i < length ws / 3 → (link_in_w
 unfolding fault_of_relations
 fault_later ws i h b = ap (fault_of_relations i) (links_next ws i (omega arith)) ∙ simp (le-ltb 1 (link_in_words ws i).relation b, add-one i)
 
-pub fault_none : (ws : List ℕ) (i : ℕ) → length ws / 3 ≤ i → fault_of_relations i (links_from ws i) ≡ Passes
+pub fault_none : (ws : List ℕ) (i : ℕ) → length ws / 3 ≤ i → fault_of_relations i (links_from ws i) ≡ Ok tt
 unfolding fault_of_relations
 fault_none ws i h = ap (fault_of_relations i) (links_end ws i h)
 
@@ -45,11 +45,11 @@ length_next ws i h = ap length (text_next ws i h) ∙ length-append (line_text (
 
 -- ---- refusals 1 and 3, and then the first link without a relation
 
-pub fault_ragged : (limits : Limits) (ws : List ℕ) → (length ws % 3 ≡ 0 → ⊥) → fault_of_text limits ws ≡ Refused OverLimit
+pub fault_ragged : (limits : Limits) (ws : List ℕ) → (length ws % 3 ≡ 0 → ⊥) → fault_of_text limits ws ≡ Err OverLimit
 unfolding fault_of_text
 fault_ragged limits ws h = simp (ne_eqb (length ws % 3) 0 h)
 
-pub fault_many : (limits : Limits) (ws : List ℕ) → length ws % 3 ≡ 0 → limits.links < length ws / 3 → fault_of_text limits ws ≡ Refused OverLimit
+pub fault_many : (limits : Limits) (ws : List ℕ) → length ws % 3 ≡ 0 → limits.links < length ws / 3 → fault_of_text limits ws ≡ Err OverLimit
 unfolding fault_of_text
 fault_many limits ws h b = simp (eq-eqb (length ws % 3) 0 h, count ws, lt-ltb limits.links (length ws / 3) b)
 

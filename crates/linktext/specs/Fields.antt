@@ -4,12 +4,12 @@
 --   capped most v      the number v, or one past `most` if it is larger
 --   relation_read r    field 3 as the reader's enum
 --   fault_of_number at n  why the field at byte `at` is no number
-use Rattle.std.specs.Prelude.{cond, List, [], ◌∷◌, ℕ, suc, leb, eqb}
+use Rattle.std.specs.Prelude.{cond, List, [], ◌∷◌, ℕ, suc, leb, eqb, Err, Ok, Result}
 use Rattle.linktext.specs.declared.Reason.TheVariants.{NoNumber, TooLarge}
 use Rattle.linktext.specs.declared.LineRead.{LineRead}
 use Rattle.linktext.specs.declared.LineRead.TheVariants.{Faulty}
-use Rattle.linktext.specs.declared.Numeral.{Numeral}
-use Rattle.linktext.specs.declared.Numeral.TheVariants.{Value, NoForm, OverLarge}
+use Rattle.linktext.specs.declared.NumeralFault.{NumeralFault}
+use Rattle.linktext.specs.declared.NumeralFault.TheVariants.{NoForm, OverLarge}
 use Rattle.linktext.specs.declared.line.Relation.{Relation}
 use Rattle.linktext.specs.declared.line.Relation.TheVariants.{Is, Unknown}
 use Rattle.linktext.specs.Lines.{Related, unrelated, related}
@@ -25,7 +25,7 @@ abbrev pub relation_read : Related → Relation
 relation_read unrelated = Unknown
 relation_read (related r) = Is r
 
-abbrev pub fault_of_number : ℕ → Numeral → LineRead
-fault_of_number at OverLarge = Faulty (TooLarge at)
-fault_of_number at NoForm = Faulty (NoNumber at)
-fault_of_number at (Value n) = Faulty (NoNumber at)
+abbrev pub fault_of_number : ℕ → Result ℕ NumeralFault → LineRead
+fault_of_number at (Err OverLarge) = Faulty (TooLarge at)
+fault_of_number at (Err NoForm) = Faulty (NoNumber at)
+fault_of_number at (Ok n) = Faulty (NoNumber at)

@@ -4,13 +4,13 @@
 --   numeral_of f       a field as a number: its value, or no number in form, or too large
 --   relation_of f      field 3: `-1` provider to customer, `0` peers
 --   read_of_line l     what the line l gives; a line is cut at its bars, the leftmost fault counts
-use Rattle.std.specs.Prelude.{ℕ, ◌+◌, ◌-◌, ◌*◌, Bool, false, cond, not, ◌&&◌, List, [], ◌∷◌, leb, eqb, length}
+use Rattle.std.specs.Prelude.{ℕ, ◌+◌, ◌-◌, ◌*◌, Bool, false, cond, not, ◌&&◌, List, [], ◌∷◌, leb, eqb, length, Err, Ok, Result}
 use Rattle.rules.specs.Lists.{all_of}
 use Rattle.linktext.specs.declared.Reason.TheVariants.{Empty, NoNumber, TooLarge, NoRelation, FurtherBar}
 use Rattle.linktext.specs.declared.LineRead.{LineRead}
 use Rattle.linktext.specs.declared.LineRead.TheVariants.{Skip, Reads, Faulty}
-use Rattle.linktext.specs.declared.Numeral.{Numeral}
-use Rattle.linktext.specs.declared.Numeral.TheVariants.{Value, NoForm, OverLarge}
+use Rattle.linktext.specs.declared.NumeralFault.{NumeralFault}
+use Rattle.linktext.specs.declared.NumeralFault.TheVariants.{NoForm, OverLarge}
 
 -- the signs of a text: LF, `#`, `-`, `0`, `1`, `9`, `|`
 abbrev pub lf : ℕ
@@ -57,9 +57,9 @@ is_in_form [] = false
 is_in_form (c ∷ []) = is_decimal_digit c
 is_in_form (c ∷ d ∷ f) = not (eqb c digit0) && all_of is_decimal_digit (c ∷ d ∷ f)
 
-unfoldable pub numeral_of : List ℕ → Numeral
+unfoldable pub numeral_of : List ℕ → Result ℕ NumeralFault
 numeral_of f =
-    cond (is_in_form f) (cond (leb (value_from 0 f) 4294967295) (Value (value_from 0 f)) OverLarge) NoForm
+    cond (is_in_form f) (cond (leb (value_from 0 f) 4294967295) (Ok (value_from 0 f)) (Err OverLarge)) (Err NoForm)
 
 -- '`a|b|-1` for provider a and customer b, `a|b|0` for peers'
 pub data Related : Type 0 where
@@ -86,19 +86,19 @@ abbrev pub third_field : ℕ → ℕ → ℕ → After → LineRead
 third_field a b at ends = Faulty (NoRelation (at - 1))
 third_field a b at (rest l) = read_from_third a b at l (relation_of (before_bar l))
 
-abbrev pub read_from_second : ℕ → ℕ → List ℕ → Numeral → LineRead
-read_from_second a at l NoForm = Faulty (NoNumber at)
-read_from_second a at l OverLarge = Faulty (TooLarge at)
-read_from_second a at l (Value b) = third_field a b (at + length (before_bar l) + 1) (after_bar l)
+abbrev pub read_from_second : ℕ → ℕ → List ℕ → Result ℕ NumeralFault → LineRead
+read_from_second a at l (Err NoForm) = Faulty (NoNumber at)
+read_from_second a at l (Err OverLarge) = Faulty (TooLarge at)
+read_from_second a at l (Ok b) = third_field a b (at + length (before_bar l) + 1) (after_bar l)
 
 abbrev pub second_field : ℕ → ℕ → After → LineRead
 second_field a at ends = Faulty (NoNumber (at - 1))
 second_field a at (rest l) = read_from_second a at l (numeral_of (before_bar l))
 
-abbrev pub read_from_first : List ℕ → Numeral → LineRead
-read_from_first l NoForm = Faulty (NoNumber 1)
-read_from_first l OverLarge = Faulty (TooLarge 1)
-read_from_first l (Value a) = second_field a (length (before_bar l) + 2) (after_bar l)
+abbrev pub read_from_first : List ℕ → Result ℕ NumeralFault → LineRead
+read_from_first l (Err NoForm) = Faulty (NoNumber 1)
+read_from_first l (Err OverLarge) = Faulty (TooLarge 1)
+read_from_first l (Ok a) = second_field a (length (before_bar l) + 2) (after_bar l)
 
 -- 'A line starting with `#` is skipped. An empty line is refused'
 unfoldable pub read_of_line : List ℕ → LineRead

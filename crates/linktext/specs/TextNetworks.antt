@@ -2,11 +2,10 @@
 --
 --   links_of_text limits t  the links of a text, none where it is refused
 --   fault_of_network limits t  the text's refusal; then 2 to 6 of its links
-use Rattle.std.specs.Prelude.{ℕ, List, []}
+use Rattle.rules.specs.Replies.{Verdict}
+use Rattle.std.specs.Prelude.{ℕ, List, [], Err, Ok}
 use Rattle.rules.specs.declared.Limits.{Limits}
 use Rattle.rules.specs.declared.Link.{Link}
-use Rattle.rules.specs.declared.Verdict.{Verdict}
-use Rattle.rules.specs.declared.Verdict.TheVariants.{Passes, Refused}
 use Rattle.rules.specs.Checks.{check_links}
 use Rattle.rules.specs.Entry.{and_then, verdict_of}
 use Rattle.linktext.specs.Texts.{TextRead, links, refused, text_in}
@@ -17,8 +16,8 @@ links_in (links ls) = ls
 links_in (refused r) = []
 
 abbrev pub fault_of_text : TextRead → Verdict
-fault_of_text (links ls) = Passes
-fault_of_text (refused r) = Refused r
+fault_of_text (links ls) = Ok tt
+fault_of_text (refused r) = Err r
 
 abbrev pub links_of_text : Limits → List ℕ → List Link
 links_of_text limits t = links_in (text_in limits t)

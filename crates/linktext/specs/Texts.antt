@@ -7,13 +7,12 @@
 --   text_of ls          the text of a list of links
 --   fault_of_text limits ws  why link words are not written, if so
 --   without_comments t  the lines that are no comments, each with LF
-use Rattle.std.specs.Prelude.{ℕ, zero, suc, ◌+◌, ◌/◌, ◌%◌, cond, List, [], ◌∷◌, ◌++◌, ltb, leb, eqb, length}
+use Rattle.rules.specs.Replies.{Verdict}
+use Rattle.std.specs.Prelude.{ℕ, zero, suc, ◌+◌, ◌/◌, ◌%◌, cond, List, [], ◌∷◌, ◌++◌, ltb, leb, eqb, length, Err, Ok}
 use Rattle.rules.specs.declared.Link.{Link}
 use Rattle.rules.specs.declared.Limits.{Limits}
 use Rattle.rules.specs.declared.Refusal.{Refusal}
 use Rattle.rules.specs.declared.Refusal.TheVariants.{OverLimit, NoRelation, Unreadable}
-use Rattle.rules.specs.declared.Verdict.{Verdict}
-use Rattle.rules.specs.declared.Verdict.TheVariants.{Passes, Refused}
 use Rattle.rules.specs.Network.{links_of}
 use Rattle.linktext.specs.declared.LineRead.{LineRead}
 use Rattle.linktext.specs.declared.LineRead.TheVariants.{Skip, Reads, Faulty}
@@ -72,13 +71,13 @@ text_of (l ∷ ls) = line_text l ++ text_of ls
 
 -- 'Text out: 1, 3, 8': 3 at the first link whose relation is not 0 or 1
 unfoldable pub fault_of_relations : ℕ → List Link → Verdict
-fault_of_relations i [] = Passes
-fault_of_relations i (l ∷ ls) = cond (ltb 1 l.relation) (Refused (NoRelation i)) (fault_of_relations (suc i) ls)
+fault_of_relations i [] = Ok tt
+fault_of_relations i (l ∷ ls) = cond (ltb 1 l.relation) (Err (NoRelation i)) (fault_of_relations (suc i) ls)
 
 unfoldable pub fault_of_text : Limits → List ℕ → Verdict
 fault_of_text limits ws =
-    cond (eqb (length ws % 3) 0) (cond (ltb limits.links (length (links_of ws))) (Refused OverLimit) (fault_of_relations 0 (links_of ws)))
-    (Refused OverLimit)
+    cond (eqb (length ws % 3) 0) (cond (ltb limits.links (length (links_of ws))) (Err OverLimit) (fault_of_relations 0 (links_of ws)))
+    (Err OverLimit)
 
 -- 'the text without comments and, if a line remains, with a final LF'
 abbrev pub keep_line : List ℕ → List ℕ → List ℕ

@@ -26,10 +26,9 @@ pub enum LineRead {
     Faulty(Reason),
 }
 
-// What a field gives that should be a number.
-#[derive(Clone, Copy)]
-pub enum Numeral {
-    Value(u32),
+// Why a field is no number: it is not of a number's form, or above the largest one.
+#[derive(Clone, Copy, Debug, PartialEq, Eq)]
+pub enum NumeralFault {
     NoForm,
     OverLarge,
 }

@@ -4,7 +4,7 @@ ghost use Rattle.rules.specs.Lists.{all_of};
 ghost use Rattle.linktext.specs.Lines.{before_bar, is_decimal_digit, value_from, is_in_form, numeral_of, relation_of, read_of_line, read_from_first, read_from_second, read_from_third};
 ghost use Rattle.linktext.specs.Fields.{place_of, capped, relation_read, fault_of_number};
 
-use crate::{LineRead, Numeral, Reason};
+use crate::{LineRead, NumeralFault, Reason};
 use rules::Link;
 
 const HASH: u8 = b'#';
@@ -105,17 +105,17 @@ fn value(field: &[u8]) -> u64
 }
 
 // A field as a number: its value, or why it has none.
-pub fn read_number(field: &[u8]) -> Numeral
+pub fn read_number(field: &[u8]) -> Result<u32, NumeralFault>
     ensures { result ≡ numeral_of field.now }
 {
     if !in_form(field) {
-        return Numeral::NoForm;
+        return Err(NumeralFault::NoForm);
     }
     let v = value(field);
     if MOST < v {
-        return Numeral::OverLarge;
+        return Err(NumeralFault::OverLarge);
     }
-    Numeral::Value(v as u32)
+    Ok(v as u32)
 }
 
 // Field 3 as a relation: `-1` is 1, `0` is 0.
@@ -139,13 +139,13 @@ fn read_relation(field: &[u8]) -> Relation
 }
 
 // Why a field that begins at byte `at` is no number.
-fn number_fault(number: Numeral, at: usize) -> LineRead
+fn number_fault(number: Result<u32, NumeralFault>, at: usize) -> LineRead
     ensures { result ≡ fault_of_number at number }
 {
     match number {
-        Numeral::Value(_) => LineRead::Faulty(Reason::NoNumber(at)),
-        Numeral::NoForm => LineRead::Faulty(Reason::NoNumber(at)),
-        Numeral::OverLarge => LineRead::Faulty(Reason::TooLarge(at)),
+        Ok(_) => LineRead::Faulty(Reason::NoNumber(at)),
+        Err(NumeralFault::NoForm) => LineRead::Faulty(Reason::NoNumber(at)),
+        Err(NumeralFault::OverLarge) => LineRead::Faulty(Reason::TooLarge(at)),
     }
 }
 
@@ -174,7 +174,7 @@ fn read_second(line: &[u8], from: usize, a: u32) -> LineRead
 {
     let end = find(line, from, BAR);
     let number = read_number(&line[from..end]);
-    let Numeral::Value(b) = number else {
+    let Ok(b) = number else {
         return number_fault(number, from + 1);
     };
     let next = end + 1;
@@ -190,7 +190,7 @@ fn read_first(line: &[u8]) -> LineRead
 {
     let end = find(line, 0, BAR);
     let number = read_number(&line[..end]);
-    let Numeral::Value(a) = number else {
+    let Ok(a) = number else {
         return number_fault(number, 1);
     };
     let next = end + 1;

@@ -9,7 +9,7 @@ ghost use Rattle.linktext.specs.Usual.{Gives};
 use crate::LineRead;
 use crate::line::{find, read_line};
 use crate::quick::{LF, quick_link};
-use rules::{Checked, Limits, Refusal};
+use rules::{Limits, Refusal};
 
 // What a line gives, and where it ends: at its LF or with the text.
 #[derive(Clone, Copy)]
@@ -45,7 +45,7 @@ fn line_at(text: &[u8], at: usize) -> LineAt
 }
 
 // The lines in order, each link into the words as it comes.
-fn read_lines(text: &[u8], most: usize, words: &mut [u32]) -> Checked
+fn read_lines(text: &[u8], most: usize, words: &mut [u32]) -> Result<usize, Refusal>
     requires { 3 * most ≤ length words.old }
     ensures { ReadInto (text_read_from most 0 1 (lines_of text.now)) words.old words.new result }
 {
@@ -57,10 +57,10 @@ fn read_lines(text: &[u8], most: usize, words: &mut [u32]) -> Checked
         let read = given.read;
         if let LineRead::Skip = read {} else {
             let LineRead::Reads(link) = read else {
-                return Checked::Refused(Refusal::Unreadable(line));
+                return Err(Refusal::Unreadable(line));
             };
             if most <= n {
-                return Checked::Refused(Refusal::OverLimit);
+                return Err(Refusal::OverLimit);
             }
             network::put_link(words, n, link);
             n += 1;
@@ -68,16 +68,16 @@ fn read_lines(text: &[u8], most: usize, words: &mut [u32]) -> Checked
         line += 1;
         at = given.end + 1;
     }
-    Checked::Accepted(n)
+    Ok(n)
 }
 
 // A text read into lent scratch; of a refusal the scratch may hold the links before it.
-pub fn read_scratch(text: &[u8], limits: Limits, words: &mut [u32]) -> Checked
+pub fn read_scratch(text: &[u8], limits: Limits, words: &mut [u32]) -> Result<usize, Refusal>
     requires { 3 * limits.links ≤ length words.old }
     ensures { ReadInto (text_in limits text.now) words.old words.new result }
 {
     if limits.text < text.len() {
-        return Checked::Refused(Refusal::OverLimit);
+        return Err(Refusal::OverLimit);
     }
     let most = limits.links;
     read_lines(text, most, words)
@@ -96,27 +96,27 @@ fn copy(from: &[u32], to: &mut [u32])
 }
 
 // The words of n links handed over, if they fit.
-fn hand_over(scratch: &[u32], n: usize, words: &mut [u32]) -> Checked
+fn hand_over(scratch: &[u32], n: usize, words: &mut [u32]) -> Result<usize, Refusal>
     requires { 3 * n ≤ length scratch.now }
     ensures reply { result ≡ fitted (length words.old) (3 * n) n }
     ensures words { words.new ≡ filled (take (3 * n) scratch.now) words.old }
 {
     let need = 3 * n;
     if words.len() < need {
-        return Checked::Refused(Refusal::OutputShort);
+        return Err(Refusal::OutputShort);
     }
     copy(&scratch[..need], words);
-    Checked::Accepted(n)
+    Ok(n)
 }
 
 // A text read into lent words: the number of its links, or the first refusal, which leaves the words as they were.
-pub fn read_text(text: &[u8], words: &mut [u32]) -> Checked
+pub fn read_text(text: &[u8], words: &mut [u32]) -> Result<usize, Refusal>
     ensures reply { result ≡ read_reply base_limits text.now (length words.old) }
     ensures words { words.new ≡ final_words base_limits text.now words.old }
 {
     let mut scratch = [0u32; 4608];
     let read = read_scratch(text, Limits::BASE, &mut scratch);
-    let Checked::Accepted(n) = read else {
+    let Ok(n) = read else {
         return read;
     };
     hand_over(&scratch, n, words)

@@ -8,10 +8,10 @@ ghost use Rattle.linktext.specs.Texts.{decimal, relation_text, line_text, text_o
 ghost use Rattle.linktext.specs.Entries.{fitted, filled, write_reply, final_bytes};
 ghost use Rattle.linktext.specs.Stored.{Stored};
 
-use rules::{Checked, Limits, Link, Refusal, Verdict};
+use rules::{Limits, Link, Refusal};
 
 // Refusal 3 at the first link whose relation is not 0 or 1.
-fn relation_fault(words: &[u32]) -> Verdict
+fn relation_fault(words: &[u32]) -> Result<(), Refusal>
     ensures { result ≡ fault_of_relations 0 (links_of words.now) }
 {
     let m = words.len() / 3;
@@ -19,22 +19,22 @@ fn relation_fault(words: &[u32]) -> Verdict
     while i < m {
         let l = network::link_at(words, i);
         if 1 < l.relation {
-            return Verdict::Refused(Refusal::NoRelation(i));
+            return Err(Refusal::NoRelation(i));
         }
         i += 1;
     }
-    Verdict::Passes
+    Ok(())
 }
 
 // Refusals 1 and 3.
-fn text_fault(words: &[u32], limits: Limits) -> Verdict
+fn text_fault(words: &[u32], limits: Limits) -> Result<(), Refusal>
     ensures { result ≡ fault_of_text limits words.now }
 {
     if words.len() % 3 != 0 {
-        return Verdict::Refused(Refusal::OverLimit);
+        return Err(Refusal::OverLimit);
     }
     if limits.links < words.len() / 3 {
-        return Verdict::Refused(Refusal::OverLimit);
+        return Err(Refusal::OverLimit);
     }
     relation_fault(words)
 }
@@ -160,33 +160,33 @@ fn put_text(words: &[u32], bytes: &mut [u8])
 }
 
 // Writes the text of links that are not refused, if it has room.
-fn write_fitting(words: &[u32], bytes: &mut [u8]) -> Checked
+fn write_fitting(words: &[u32], bytes: &mut [u8]) -> Result<usize, Refusal>
     requires { 25 * length (links_of words.now) < 18446744073709551616 }
     ensures reply { result ≡ fitted (length bytes.old) (length (text_of (links_of words.now))) (length (text_of (links_of words.now))) }
     ensures after { bytes.new ≡ filled (text_of (links_of words.now)) bytes.old }
 {
     let need = text_length(words);
     if bytes.len() < need {
-        return Checked::Refused(Refusal::OutputShort);
+        return Err(Refusal::OutputShort);
     }
     put_text(words, bytes);
-    Checked::Accepted(need)
+    Ok(need)
 }
 
 // Writing within limits.
-fn write_within(words: &[u32], bytes: &mut [u8], limits: Limits) -> Checked
+fn write_within(words: &[u32], bytes: &mut [u8], limits: Limits) -> Result<usize, Refusal>
     requires { 25 * limits.links < 18446744073709551616 }
     ensures reply { result ≡ write_reply limits words.now (length bytes.old) }
     ensures after { bytes.new ≡ final_bytes limits words.now bytes.old }
 {
     match text_fault(words, limits) {
-        Verdict::Refused(why) => Checked::Refused(why),
-        Verdict::Passes => write_fitting(words, bytes),
+        Err(why) => Err(why),
+        Ok(()) => write_fitting(words, bytes),
     }
 }
 
 // The text of a list of link words, a line for each link: the number of its bytes, or a refusal, which leaves the bytes as they were.
-pub fn write_text(words: &[u32], bytes: &mut [u8]) -> Checked
+pub fn write_text(words: &[u32], bytes: &mut [u8]) -> Result<usize, Refusal>
     ensures reply { result ≡ write_reply base_limits words.now (length bytes.old) }
     ensures after { bytes.new ≡ final_bytes base_limits words.now bytes.old }
 {

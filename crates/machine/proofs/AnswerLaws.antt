@@ -10,12 +10,10 @@ use lib.Dec.{eqb, ltb, leb}
 use lib.ListN.{length, get_or, take, drop, replicate, drop_of_length-le}
 use lib.Seq.{drop-cons, get_or-take}
 use borrow.Author.Tests.{eq-eqb, ne_eqb, lt-ltb, le-ltb, ltb-true, le-leb, lt-leb}
+use Rattle.rules.specs.Replies.{Verdict}
+use Rattle.std.specs.Prelude.{Err, Ok, Result}
 use Rattle.rules.specs.declared.Refusal.{Refusal}
 use Rattle.rules.specs.declared.Refusal.TheVariants.{OverLimit, NoDestination, OutputShort, RoomShort, NoDirection}
-use Rattle.rules.specs.declared.Checked.{Checked}
-use Rattle.rules.specs.declared.Verdict.{Verdict}
-use Rattle.rules.specs.declared.Verdict.TheVariants.{Passes, Refused}
-use Rattle.rules.specs.declared.Checked.TheVariants as checked
 use Rattle.rules.specs.Network.{links_of, ases_of}
 use Rattle.rules.specs.Checks.{base_limits, check_words, needed_room}
 use Rattle.rules.specs.Entry.{and_then, verdict_of}
@@ -27,14 +25,13 @@ use Rattle.rules.proofs.AcceptedLinks.{check_words-Accepted}
 use Rattle.rules.proofs.NetworkLaws.{ases_Ascending}
 use Rattle.rules.proofs.LineLaws.{table_length}
 use Rattle.rules.proofs.VerdictLaws.{not_passes}
-use Rattle.network.specs.declared.Place.{Place}
-use Rattle.network.specs.declared.Place.TheVariants.{At, Nowhere}
+use Rattle.std.specs.Prelude.{Option}
+use Rattle.std.specs.Prelude.{Some, None}
 use Rattle.network.specs.Promises.{Listed, Stands}
 use Rattle.network.proofs.ListedLaws.{listed_front, listed_ascends, placed, unplaced}
 use Rattle.network.proofs.PrefixLaws.{count}
 use Rattle.machine.specs.declared.Ran.{Ran}
 use Rattle.machine.specs.declared.Counts.{Counts}
-use Rattle.machine.specs.declared.Ran.TheVariants as ran
 use Rattle.machine.specs.Entries.{choice_from, fault_of_choices, fault_of_run, run_on, run_reply, final_table, final_room}
 use Rattle.machine.specs.Room.{net_of, ases_in, as_at, Laid}
 use Rattle.machine.specs.Steps.{FirstWaiting}
@@ -54,27 +51,27 @@ choices_none directions cs = record { rest = refl }
 
 module _ {directions : ℕ} {cs : List ℕ} {i : ℕ} (g : ChoicesTo directions cs i) where
   next : i < length cs → fault_of_choices directions cs
-      ≡ cond (ltb (get_or cs i 0) directions) (choice_from directions (suc i) (drop (suc i) cs)) (Refused (NoDirection i))
+      ≡ cond (ltb (get_or cs i 0) directions) (choice_from directions (suc i) (drop (suc i) cs)) (Err (NoDirection i))
   unfolding choice_from
   next h = sym g.rest ∙ ap (choice_from directions i) (drop-cons cs i 0 h)
 
-  pub choices_bad : i < length cs → directions ≤ get_or cs i 0 → Refused (NoDirection i) ≡ fault_of_choices directions cs
+  pub choices_bad : i < length cs → directions ≤ get_or cs i 0 → Err (NoDirection i) ≡ fault_of_choices directions cs
   choices_bad h bad = sym (next h ∙ rw (le-ltb (get_or cs i 0) directions bad))
 
   pub choices_more : i < length cs → get_or cs i 0 < directions → ChoicesTo directions cs (i + 1)
   choices_more h good = record { rest = rw add-one (sym (next h ∙ rw (lt-ltb (get_or cs i 0) directions good))) }
 
-  pub choices_all : length cs ≤ i → Passes ≡ fault_of_choices directions cs
+  pub choices_all : length cs ≤ i → Ok tt ≡ fault_of_choices directions cs
   unfolding choice_from
   choices_all h = ap (choice_from directions i) (sym (drop_of_length-le cs h)) ∙ g.rest
 
-choices_good : (directions j : ℕ) (cs : List ℕ) → choice_from directions j cs ≡ Passes → (i : ℕ) → i < length cs → get_or cs i 0 < directions
+choices_good : (directions j : ℕ) (cs : List ℕ) → choice_from directions j cs ≡ Ok tt → (i : ℕ) → i < length cs → get_or cs i 0 < directions
 unfolding choice_from
 choices_good directions j [] e i h = absurd (omega arith)
 choices_good directions j (c ∷ cs) e i h = go (ltb c directions) refl e (choices_good directions (suc j) cs) i h
   where
-    go : (b : Bool) → ltb c directions ≡ b → cond b (choice_from directions (suc j) cs) (Refused (NoDirection j)) ≡ Passes
-        → (choice_from directions (suc j) cs ≡ Passes → (i : ℕ) → i < length cs → get_or cs i 0 < directions)
+    go : (b : Bool) → ltb c directions ≡ b → cond b (choice_from directions (suc j) cs) (Err (NoDirection j)) ≡ Ok tt
+        → (choice_from directions (suc j) cs ≡ Ok tt → (i : ℕ) → i < length cs → get_or cs i 0 < directions)
         → (i : ℕ) → i < suc (length cs) → get_or (c ∷ cs) i 0 < directions
     go false t f rest i h = absurd (not_passes (NoDirection j) f)
     go true t f rest zero h = ltb-true c directions t
@@ -99,7 +96,7 @@ module _ {ws : List ℕ} {m place : ℕ} {cs : List ℕ} {n : ℕ} {t : List ℕ
   driven s a w = record { laid = w.laid; flagged = w.flagged; reached = w.after _ _ (a.after _ _ s.reached) }
 
   pub answered : Driven ws m place cs n t c t' r' f' → {k : ℕ} → FirstWaiting m r' k → {r r'' : List ℕ} → length r' ≡ length r
-      → r'' ≡ replicate (length r') 0 → RunAnswer ws place cs n t r (ran.Ran c.made c.idle (eqb k (2 * m))) t' r''
+      → r'' ≡ replicate (length r') 0 → RunAnswer ws place cs n t r (Ok (record { made = c.made; idle = c.idle; quiet = (eqb k (2 * m)) })) t' r''
   answered d {k} f long z =
       let h = d.reached in
       let us = ases_of (links_of ws) in
@@ -113,13 +110,13 @@ module _ {ws : List ℕ} {m place : ℕ} {cs : List ℕ} {n : ℕ} {t : List ℕ
 -- Refusals, one after the other -----------------------------------------------------------------------------------------------------
 
 -- a refusal leaves all lent memory as it was
-refused : (ws : List ℕ) (d : ℕ) (cs : List ℕ) (n : ℕ) {v : Verdict} (t r : List ℕ) {why : Refusal} → v ≡ Refused why
-    → Outcome ws d cs n v t r (ran.Refused why) t r
+refused : (ws : List ℕ) (d : ℕ) (cs : List ℕ) (n : ℕ) {v : Verdict} (t r : List ℕ) {why : Refusal} → v ≡ Err why
+    → Outcome ws d cs n v t r (Err why) t r
 refused ws d cs n t r e = rw e (record { replies = refl; tabled = refl; zeroed = refl })
 
 -- 8 and 13
 module _ {ws list : List ℕ} {most place : ℕ} {cs : List ℕ} {n : ℕ} (g : Located ws list most place cs n) (t r : List ℕ) where
-  pub no_table : length t < 4 * most → MemoryAnswer ws place cs n t r (ran.Refused OutputShort) t r
+  pub no_table : length t < 4 * most → MemoryAnswer ws place cs n t r (Err OutputShort) t r
   no_table h =
       let short : length t < 4 * ases_in ws = omega (arith, g.count) in
       refused ws (as_at ws place) cs n t r (rw (lt-leb (4 * ases_in ws) (length t) short))
@@ -134,7 +131,7 @@ module _ {ws list : List ℕ} {most place : ℕ} {cs : List ℕ} {n : ℕ} (g : 
     enough : leb (4 * ases_in ws) (length t) ≡ true
     enough = le-leb (4 * ases_in ws) (length t) (omega (arith, g.count))
 
-    pub no_room : length r < need → MemoryAnswer ws place cs n t r (ran.Refused RoomShort) t r
+    pub no_room : length r < need → MemoryAnswer ws place cs n t r (Err RoomShort) t r
     no_room h =
         let short : length r < needed_room (length (links_of ws)) (ases_in ws) = omega (arith, need_is) in
         refused ws (as_at ws place) cs n t r (rw (enough, lt-leb (needed_room (length (links_of ws)) (ases_in ws)) (length r) short))
@@ -145,15 +142,15 @@ module _ {ws list : List ℕ} {most place : ℕ} {cs : List ℕ} {n : ℕ} (g : 
           let long : needed_room (length (links_of ws)) (ases_in ws) ≤ length r = omega (arith, need_is) in
           rw (enough, le-leb (needed_room (length (links_of ws)) (ases_in ws)) (length r) long, links_are) (sym choices)
 
-      pub no_choice : {why : Refusal} → v ≡ Refused why
-          → MemoryAnswer ws place cs n t r (ran.Refused why) t r
+      pub no_choice : {why : Refusal} → v ≡ Err why
+          → MemoryAnswer ws place cs n t r (Err why) t r
       no_choice e = refused ws (as_at ws place) cs n t r (memory_is ∙ e)
 
-      pub all_pass : v ≡ Passes → {out : Ran} {t' r' : List ℕ} → RunAnswer ws place cs n t r out t' r'
+      pub all_pass : v ≡ Ok tt → {out : Result Ran Refusal} {t' r' : List ℕ} → RunAnswer ws place cs n t r out t' r'
           → MemoryAnswer ws place cs n t r out t' r'
       all_pass e o = rw (memory_is ∙ e) o
 
-      pub may_drive : v ≡ Passes → Driving ws m list most place cs n t r
+      pub may_drive : v ≡ Ok tt → Driving ws m list most place cs n t r
       may_drive e =
           record {
             starting =
@@ -182,13 +179,13 @@ module _ {ws cs : List ℕ} {n : ℕ} (g : Looking ws cs n) {l u : List ℕ} {k 
   pub may_search : (k ≤ length u) × Ascending (take k u)
   may_search = listed_ascends fits listed (ases_Ascending (links_of ws))
 
-  module _ (d : ℕ) (p : Place) (stands : Stands u k d p) where
-    pub no_destination : p ≡ Nowhere → (t r : List ℕ)
-        → NetworkAnswer ws d cs n t r (ran.Refused NoDestination) t r
+  module _ (d : ℕ) (p : Option ℕ) (stands : Stands u k d p) where
+    pub no_destination : p ≡ None → (t r : List ℕ)
+        → NetworkAnswer ws d cs n t r (Err NoDestination) t r
     no_destination e t r = refused ws d cs n t r (rw (member_no d (ases_of (links_of ws)) (unplaced fits listed d (subst (Stands u k d) e stands))))
 
-    module _ {i : ℕ} (e : p ≡ At i) where
-      here : Stands u k d (At i)
+    module _ {i : ℕ} (e : p ≡ Some i) where
+      here : Stands u k d (Some i)
       here = subst (Stands u k d) e stands
 
       pub located : Located ws u k i cs n
@@ -197,7 +194,7 @@ module _ {ws cs : List ℕ} {n : ℕ} (g : Looking ws cs n) {l u : List ℕ} {k 
       its_number : as_at ws i ≡ d
       its_number = ap (λ (us : List ℕ). get_or us i 0) (sym (listed_front listed)) ∙ get_or-take k u i 0 here.0 ∙ here.1
 
-      pub at_destination : (t r : List ℕ) {out : Ran} {t' r' : List ℕ}
+      pub at_destination : (t r : List ℕ) {out : Result Ran Refusal} {t' r' : List ℕ}
           → MemoryAnswer ws i cs n t r out t' r'
           → NetworkAnswer ws d cs n t r out t' r'
       at_destination t r o =
@@ -205,31 +202,31 @@ module _ {ws cs : List ℕ} {n : ℕ} (g : Looking ws cs n) {l u : List ℕ} {k 
 
 -- 1 to 6
 module _ (ws : List ℕ) (d : ℕ) (cs : List ℕ) (n : ℕ) (t r : List ℕ) where
-  from_Outcome : {v : Verdict} {out : Ran} {t' r' : List ℕ} → fault_of_run base_limits ws d cs n (length t) (length r) ≡ v
+  from_Outcome : {v : Verdict} {out : Result Ran Refusal} {t' r' : List ℕ} → fault_of_run base_limits ws d cs n (length t) (length r) ≡ v
       → Outcome ws d cs n v t r out t' r' → Answered base_limits ws d cs n t r out t' r'
   unfolding run_reply final_table final_room
   from_Outcome e o = record { replies = rw e o.replies; tabled = rw e o.tabled; zeroed = rw e o.zeroed }
 
-  pub many_choices : 65536 < length cs → Answered base_limits ws d cs n t r (ran.Refused OverLimit) t r
+  pub many_choices : 65536 < length cs → Answered base_limits ws d cs n t r (Err OverLimit) t r
   unfolding fault_of_run
   many_choices h = from_Outcome (rw (lt-leb (length cs) 65536 h)) (refused ws d cs n t r refl)
 
   module _ (few : length cs ≤ 65536) where
-    pub many_deliveries : 65536 < n → Answered base_limits ws d cs n t r (ran.Refused OverLimit) t r
+    pub many_deliveries : 65536 < n → Answered base_limits ws d cs n t r (Err OverLimit) t r
     unfolding fault_of_run
     many_deliveries h = from_Outcome (rw (le-leb (length cs) 65536 few, lt-leb n 65536 h)) (refused ws d cs n t r refl)
 
-    module _ (deliveries : n ≤ 65536) {c : Checked} (check : c ≡ check_words base_limits ws) where
+    module _ (deliveries : n ≤ 65536) {c : Result ℕ Refusal} (check : c ≡ check_words base_limits ws) where
       fault_is : fault_of_run base_limits ws d cs n (length t) (length r) ≡ and_then (verdict_of c) (fault_of_network ws d cs (length t) (length r))
       unfolding fault_of_run
       fault_is = rw (le-leb (length cs) 65536 few, le-leb n 65536 deliveries, check)
 
-      pub bad_links : {why : Refusal} → c ≡ checked.Refused why → Answered base_limits ws d cs n t r (ran.Refused why) t r
+      pub bad_links : {why : Refusal} → c ≡ Err why → Answered base_limits ws d cs n t r (Err why) t r
       bad_links e =
-          from_Outcome (fault_is ∙ ap (λ (x : Checked). and_then (verdict_of x) (fault_of_network ws d cs (length t) (length r))) e)
+          from_Outcome (fault_is ∙ ap (λ (x : Result ℕ Refusal). and_then (verdict_of x) (fault_of_network ws d cs (length t) (length r))) e)
           (refused ws d cs n t r refl)
 
-      pub may_look : {known : ℕ} → c ≡ checked.Accepted known → Looking ws cs n
+      pub may_look : {known : ℕ} → c ≡ Ok known → Looking ws cs n
       may_look {known} e =
           let (whole, ok) = check_words-Accepted base_limits ws known (sym check ∙ e) in
           record {
@@ -240,7 +237,7 @@ module _ (ws : List ℕ) (d : ℕ) (cs : List ℕ) (n : ℕ) (t r : List ℕ) wh
             deliveries = deliveries;
           }
 
-      pub good_links : {known : ℕ} → c ≡ checked.Accepted known → {out : Ran} {t' r' : List ℕ}
+      pub good_links : {known : ℕ} → c ≡ Ok known → {out : Result Ran Refusal} {t' r' : List ℕ}
           → NetworkAnswer ws d cs n t r out t' r' → Answered base_limits ws d cs n t r out t' r'
       good_links e o =
-          from_Outcome (fault_is ∙ ap (λ (x : Checked). and_then (verdict_of x) (fault_of_network ws d cs (length t) (length r))) e) o
+          from_Outcome (fault_is ∙ ap (λ (x : Result ℕ Refusal). and_then (verdict_of x) (fault_of_network ws d cs (length t) (length r))) e) o

@@ -6,6 +6,7 @@ use mathlib.Core.Bool.{true}
 use mathlib.Core.List.{List}
 use lib.ListN.{length, take, drop}
 use lib.Seq.{take_at}
+use Rattle.std.specs.Prelude.{Ok, Result}
 use Rattle.rules.specs.declared.Limits.{Limits}
 use Rattle.rules.specs.Network.{links_of, ases_of, arcs_of}
 use Rattle.rules.specs.Stable.{Routing, table_of}
@@ -13,15 +14,15 @@ use Rattle.rules.specs.Solve.{stable_of}
 use Rattle.rules.proofs.ArcLaws.{direction_unique, arcs_positive}
 use Rattle.rules.proofs.MachineRuns.{run_quiet}
 use Rattle.rules.proofs.LineLaws.{table_length}
+use Rattle.rules.specs.declared.Refusal.{Refusal}
 use Rattle.machine.specs.declared.Ran.{Ran}
-use Rattle.machine.specs.declared.Ran.TheVariants as ran
 use Rattle.machine.specs.Entries.{fault_of_run, run_on, run_reply, final_table}
 use Rattle.machine.specs.Answers.{Answered}
 use Rattle.machine.proofs.ReplyLaws.{reply_Ended}
 
 module _ (limits : Limits) (ws : List ℕ) (d : ℕ) (cs : List ℕ) (n : ℕ) (t r : List ℕ) where
   -- the first four words per AS are the stable table's
-  pub quiet_stable_table : (made idle : ℕ) → run_reply limits ws d cs n (length t) (length r) ≡ ran.Ran made idle true
+  pub quiet_stable_table : (made idle : ℕ) → run_reply limits ws d cs n (length t) (length r) ≡ Ok (record { made = made; idle = idle; quiet = true })
       → take (4 * length (ases_of (links_of ws))) (final_table limits ws d cs n t (length r)) ≡ table_of (stable_of (arcs_of (links_of ws)) d) (ases_of (links_of ws))
   unfolding run_reply final_table
   quiet_stable_table made idle e =
@@ -32,12 +33,12 @@ module _ (limits : Limits) (ws : List ℕ) (d : ℕ) (cs : List ℕ) (n : ℕ) (
       rw ended.passes (take_at (table_of lines us) (drop (length (table_of lines us)) t) (4 * length us) (table_length lines us))
       ∙ ap (λ (R : Routing). table_of R us) (run_quiet net (direction_unique (links_of ws)) (arcs_positive (links_of ws)) d cs n (sym ended.waits_not))
 
-  module _ {out : Ran} {t' r' : List ℕ} (a : Answered limits ws d cs n t r out t' r') where
+  module _ {out : Result Ran Refusal} {t' r' : List ℕ} (a : Answered limits ws d cs n t r out t' r') where
     -- the same of what the code answers
-    pub answered_quiet : (made idle : ℕ) → out ≡ ran.Ran made idle true
+    pub answered_quiet : (made idle : ℕ) → out ≡ Ok (record { made = made; idle = idle; quiet = true })
         → take (4 * length (ases_of (links_of ws))) t' ≡ table_of (stable_of (arcs_of (links_of ws)) d) (ases_of (links_of ws))
     answered_quiet made idle e =
         ap (take (4 * length (ases_of (links_of ws)))) a.tabled ∙ quiet_stable_table made idle (sym a.replies ∙ e)
 
-    pub Answered-once : {out₂ : Ran} {t₂ r₂ : List ℕ} → Answered limits ws d cs n t r out₂ t₂ r₂ → (out ≡ out₂) × (t' ≡ t₂) × (r' ≡ r₂)
+    pub Answered-once : {out₂ : Result Ran Refusal} {t₂ r₂ : List ℕ} → Answered limits ws d cs n t r out₂ t₂ r₂ → (out ≡ out₂) × (t' ≡ t₂) × (r' ≡ r₂)
     Answered-once b = (a.replies ∙ sym b.replies, a.tabled ∙ sym b.tabled, a.zeroed ∙ sym b.zeroed)

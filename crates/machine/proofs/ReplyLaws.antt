@@ -5,26 +5,25 @@ use Prim.Native.Nat.{ℕ}
 use mathlib.Core.Path.{◌≡◌, refl}
 use mathlib.Core.Bool.{Bool}
 use mathlib.Core.List.{List}
+use Rattle.std.specs.Prelude.{Err, Ok}
+use Rattle.rules.specs.Replies.{Verdict}
 use Rattle.rules.specs.declared.Refusal.{Refusal}
-use Rattle.rules.specs.declared.Verdict.{Verdict}
-use Rattle.rules.specs.declared.Verdict.TheVariants.{Passes, Refused}
 use Rattle.rules.specs.Network.{links_of, arcs_of}
 use Rattle.rules.specs.Machine.{Run, lowest, is_quiet}
 use Rattle.rules.proofs.Tests.{clash}
-use Rattle.machine.specs.declared.Ran.TheVariants as ran
 use Rattle.machine.specs.Entries.{reply_run}
 
-pub reply_refused : (ws : List ℕ) (run : Run) (v : Verdict) (why : Refusal) → reply_run ws run v ≡ ran.Refused why → v ≡ Refused why
-reply_refused ws run Passes why e = cc
-reply_refused ws run (Refused r) why e = cc
+pub reply_refused : (ws : List ℕ) (run : Run) (v : Verdict) (why : Refusal) → reply_run ws run v ≡ Err why → v ≡ Err why
+reply_refused ws run (Ok tt) why e = cc
+reply_refused ws run (Err r) why e = cc
 
 pub record Ended (ws : List ℕ) (run : Run) (v : Verdict) (made idle : ℕ) (quiet : Bool) : Type 0 where
-  pub passes : v ≡ Passes
+  pub passes : v ≡ Ok tt
   pub deliveries : made ≡ run.made
   pub idles : idle ≡ run.idle
   pub waits_not : quiet ≡ is_quiet (lowest (arcs_of (links_of ws)) run.state.waiting)
 
-pub reply_Ended : (ws : List ℕ) (run : Run) (v : Verdict) (made idle : ℕ) (quiet : Bool) → reply_run ws run v ≡ ran.Ran made idle quiet
+pub reply_Ended : (ws : List ℕ) (run : Run) (v : Verdict) (made idle : ℕ) (quiet : Bool) → reply_run ws run v ≡ Ok (record { made = made; idle = idle; quiet = quiet })
     → Ended ws run v made idle quiet
-reply_Ended ws run Passes made idle quiet e = record { passes = refl; deliveries = cc; idles = cc; waits_not = cc }
-reply_Ended ws run (Refused r) made idle quiet e = clash (cc)
+reply_Ended ws run (Ok tt) made idle quiet e = record { passes = refl; deliveries = cc; idles = cc; waits_not = cc }
+reply_Ended ws run (Err r) made idle quiet e = clash (cc)

@@ -6,14 +6,14 @@
 --   NetworkAnswer, MemoryAnswer, RunAnswer   what is left to answer
 --   Looking, Located, Driving   an accepted list of links; with the destination's place; with memory and choices that pass
 --   Driven ws m place cs n t c t' r' f'   table and room hold the whole run, which c counts
-use Rattle.std.specs.Prelude.{ℕ, ◌*◌, ◌≤◌, ◌<◌, ◌≡◌, List, length, get_or, take, drop}
+use Rattle.rules.specs.Replies.{Verdict}
+use Rattle.std.specs.Prelude.{ℕ, ◌*◌, ◌≤◌, ◌<◌, ◌≡◌, List, length, get_or, take, drop, Ok, Result}
 use Rattle.rules.specs.declared.Limits.{Limits}
-use Rattle.rules.specs.declared.Verdict.{Verdict}
-use Rattle.rules.specs.declared.Verdict.TheVariants.{Passes}
 use Rattle.rules.specs.Network.{links_of, ases_of}
 use Rattle.rules.specs.Checks.{needed_room}
 use Rattle.rules.specs.Entry.{and_then, fault_of_destination, fault_of_output, fault_of_room, cleared, filled}
 use Rattle.rules.specs.Stable.{table_of}
+use Rattle.rules.specs.declared.Refusal.{Refusal}
 use Rattle.machine.specs.declared.Ran.{Ran}
 use Rattle.machine.specs.declared.Counts.{Counts}
 use Rattle.machine.specs.Entries.{fault_of_choices, run_on, reply_run, run_reply, final_table, final_room}
@@ -21,12 +21,12 @@ use Rattle.machine.specs.Room.{ases_in, as_at, Flagged, Laid}
 use Rattle.machine.specs.Runs.{Reached}
 use Rattle.machine.specs.Start.{Starting}
 
-pub record Answered (limits : Limits) (ws : List ℕ) (d : ℕ) (cs : List ℕ) (n : ℕ) (t r : List ℕ) (out : Ran) (t' r' : List ℕ) : Type 0 where
+pub record Answered (limits : Limits) (ws : List ℕ) (d : ℕ) (cs : List ℕ) (n : ℕ) (t r : List ℕ) (out : Result Ran Refusal) (t' r' : List ℕ) : Type 0 where
   pub replies : out ≡ run_reply limits ws d cs n (length t) (length r)
   pub tabled : t' ≡ final_table limits ws d cs n t (length r)
   pub zeroed : r' ≡ final_room limits ws d cs n (length t) r
 
-pub record Outcome (ws : List ℕ) (d : ℕ) (cs : List ℕ) (n : ℕ) (v : Verdict) (t r : List ℕ) (out : Ran) (t' r' : List ℕ) : Type 0 where
+pub record Outcome (ws : List ℕ) (d : ℕ) (cs : List ℕ) (n : ℕ) (v : Verdict) (t r : List ℕ) (out : Result Ran Refusal) (t' r' : List ℕ) : Type 0 where
   pub replies : out ≡ reply_run ws (run_on ws d cs n) v
   pub tabled : t' ≡ filled v (table_of (run_on ws d cs n).state.lines (ases_of (links_of ws))) t
   pub zeroed : r' ≡ cleared v r
@@ -40,14 +40,14 @@ abbrev pub fault_of_network : List ℕ → ℕ → List ℕ → ℕ → ℕ → 
 fault_of_network ws d cs table room = and_then (fault_of_destination d (ases_of (links_of ws))) (fault_of_memory ws cs table room)
 
 -- what is left to answer: 7, 8 and 13; 8 and 13 with the destination at a place; a run that passes
-abbrev pub NetworkAnswer : List ℕ → ℕ → List ℕ → ℕ → List ℕ → List ℕ → Ran → List ℕ → List ℕ → Type 0
+abbrev pub NetworkAnswer : List ℕ → ℕ → List ℕ → ℕ → List ℕ → List ℕ → Result Ran Refusal → List ℕ → List ℕ → Type 0
 NetworkAnswer ws d cs n t r = Outcome ws d cs n (fault_of_network ws d cs (length t) (length r)) t r
 
-abbrev pub MemoryAnswer : List ℕ → ℕ → List ℕ → ℕ → List ℕ → List ℕ → Ran → List ℕ → List ℕ → Type 0
+abbrev pub MemoryAnswer : List ℕ → ℕ → List ℕ → ℕ → List ℕ → List ℕ → Result Ran Refusal → List ℕ → List ℕ → Type 0
 MemoryAnswer ws place cs n t r = Outcome ws (as_at ws place) cs n (fault_of_memory ws cs (length t) (length r)) t r
 
-abbrev pub RunAnswer : List ℕ → ℕ → List ℕ → ℕ → List ℕ → List ℕ → Ran → List ℕ → List ℕ → Type 0
-RunAnswer ws place cs n t r = Outcome ws (as_at ws place) cs n Passes t r
+abbrev pub RunAnswer : List ℕ → ℕ → List ℕ → ℕ → List ℕ → List ℕ → Result Ran Refusal → List ℕ → List ℕ → Type 0
+RunAnswer ws place cs n t r = Outcome ws (as_at ws place) cs n (Ok tt) t r
 
 pub record Looking (ws cs : List ℕ) (n : ℕ) : Type 0 where
   pub words : length ws ≡ 3 * length (links_of ws)

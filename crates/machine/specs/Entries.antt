@@ -4,23 +4,22 @@
 --   fault_of_run       1; 2 to 6; 7; 8 (table, room); 13
 --   run_reply          deliveries, idle choices, quiet or not; or the refusal
 --   final_table, final_room  the lent table, with the lines of that moment, and the lent room
-use Rattle.std.specs.Prelude.{ℕ, suc, ◌*◌, cond, ◌&&◌, List, [], ◌∷◌, leb, ltb, length}
+use Rattle.rules.specs.Replies.{Verdict}
+use Rattle.std.specs.Prelude.{ℕ, suc, ◌*◌, cond, ◌&&◌, List, [], ◌∷◌, leb, ltb, length, Err, Ok, Result}
 use Rattle.rules.specs.declared.Limits.{Limits}
 use Rattle.rules.specs.declared.Refusal.TheVariants.{OverLimit, NoDirection}
-use Rattle.rules.specs.declared.Verdict.{Verdict}
-use Rattle.rules.specs.declared.Verdict.TheVariants.{Passes, Refused}
 use Rattle.rules.specs.Network.{links_of, ases_of, arcs_of}
 use Rattle.rules.specs.Checks.{needed_room}
 use Rattle.rules.specs.Entry.{and_then, unless, fault_of_links, fault_of_destination, fault_of_output, fault_of_room, cleared, filled}
 use Rattle.rules.specs.Stable.{table_of}
 use Rattle.rules.specs.Machine.{Run, run_of, lowest, is_quiet}
+use Rattle.rules.specs.declared.Refusal.{Refusal}
 use Rattle.machine.specs.declared.Ran.{Ran}
-use Rattle.machine.specs.declared.Ran.TheVariants as ran
 
 -- 'choice is no direction', place 'choice index'
 unfoldable pub choice_from : ℕ → ℕ → List ℕ → Verdict
-choice_from directions i [] = Passes
-choice_from directions i (c ∷ cs) = cond (ltb c directions) (choice_from directions (suc i) cs) (Refused (NoDirection i))
+choice_from directions i [] = Ok tt
+choice_from directions i (c ∷ cs) = cond (ltb c directions) (choice_from directions (suc i) cs) (Err (NoDirection i))
 
 abbrev pub fault_of_choices : ℕ → List ℕ → Verdict
 fault_of_choices directions cs = choice_from directions 0 cs
@@ -41,11 +40,11 @@ fault_of_run limits ws d choices further table room =
 abbrev pub run_on : List ℕ → ℕ → List ℕ → ℕ → Run
 run_on ws d choices further = run_of (arcs_of (links_of ws)) d choices further
 
-abbrev pub reply_run : List ℕ → Run → Verdict → Ran
-reply_run ws r Passes = ran.Ran r.made r.idle (is_quiet (lowest (arcs_of (links_of ws)) r.state.waiting))
-reply_run ws r (Refused why) = ran.Refused why
+abbrev pub reply_run : List ℕ → Run → Verdict → Result Ran Refusal
+reply_run ws r (Ok tt) = ran.Ran r.made r.idle (is_quiet (lowest (arcs_of (links_of ws)) r.state.waiting))
+reply_run ws r (Err why) = Err why
 
-unfoldable pub run_reply : Limits → List ℕ → ℕ → List ℕ → ℕ → ℕ → ℕ → Ran
+unfoldable pub run_reply : Limits → List ℕ → ℕ → List ℕ → ℕ → ℕ → ℕ → Result Ran Refusal
 run_reply limits ws d choices further table room =
     reply_run ws (run_on ws d choices further) (fault_of_run limits ws d choices further table room)
 

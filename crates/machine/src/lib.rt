@@ -4,7 +4,7 @@
 ghost use Rattle.rules.specs.Checks.{base_limits};
 ghost use Rattle.machine.specs.Answers.{Answered};
 
-use rules::{Checked, Refusal};
+use rules::Refusal;
 
 mod blocks;
 mod index;
@@ -14,11 +14,12 @@ mod runs;
 mod start;
 mod steps;
 
-// What a run gives: deliveries made, idle choices, quiet or not; or a refusal.
-#[derive(Clone, Copy)]
-pub enum Ran {
-    Ran(usize, usize, bool),
-    Refused(Refusal),
+// What a run gives: deliveries made, idle choices, quiet or not.
+#[derive(Clone, Copy, Debug, PartialEq, Eq)]
+pub struct Ran {
+    pub made: usize,
+    pub idle: usize,
+    pub quiet: bool,
 }
 
 // Deliveries made and idle choices so far.
@@ -42,18 +43,18 @@ pub fn run(
     further: u32,
     table: &mut [u32],
     room: &mut [u32],
-) -> Ran
+) -> Result<Ran, Refusal>
     ensures { Answered base_limits words.now destination choices.now further table.old room.old result table.new room.new }
 {
     if MOST_CHOICES < choices.len() {
-        return Ran::Refused(Refusal::OverLimit);
+        return Err(Refusal::OverLimit);
     }
     if MOST_DELIVERIES < further {
-        return Ran::Refused(Refusal::OverLimit);
+        return Err(Refusal::OverLimit);
     }
     match network::check_links(words) {
-        Checked::Refused(why) => Ran::Refused(why),
-        Checked::Accepted(_) => look::look_at_network(
+        Err(why) => Err(why),
+        Ok(_) => look::look_at_network(
             words,
             destination,
             choices,

@@ -4,22 +4,22 @@ ghost use Rattle.machine.specs.Entries.{fault_of_choices};
 ghost use Rattle.machine.specs.Answers.{NetworkAnswer, MemoryAnswer, RunAnswer, Looking, Located, Driving, Driven};
 
 use super::{Counts, Ran, blocks, room, runs, start};
-use network::{Place, WORDS_PER_LINK};
+use network::WORDS_PER_LINK;
 use offers::WORDS_PER_ENTRY;
-use rules::{Refusal, Verdict};
+use rules::Refusal;
 
 // Refusal 13: the first choice that is no direction.
-fn choice_fault(choices: &[u32], directions: usize) -> Verdict
+fn choice_fault(choices: &[u32], directions: usize) -> Result<(), Refusal>
     ensures { result ≡ fault_of_choices directions choices.now }
 {
     let mut i = 0;
     while i < choices.len() {
         if directions <= room::wide(choices[i]) {
-            return Verdict::Refused(Refusal::NoDirection(i));
+            return Err(Refusal::NoDirection(i));
         }
         i += 1;
     }
-    Verdict::Passes
+    Ok(())
 }
 
 // The run of an input that passes: the fresh start, the choices, the further deliveries.
@@ -54,7 +54,7 @@ fn answer(
     further: u32,
     table: &mut [u32],
     room: &mut [u32],
-) -> Ran
+) -> Result<Ran, Refusal>
     requires { Driving words.now m list.now n destination choices.now further table.old room.old }
     ensures { RunAnswer words.now destination choices.now further table.old room.old result table.new room.new }
 {
@@ -73,7 +73,7 @@ fn answer(
     );
     let quiet = blocks::first_waiting(room, &mut flags, m) == 2 * m;
     network::clear(room);
-    Ran::Ran(counts.made, counts.idle, quiet)
+    Ok(Ran { made: counts.made, idle: counts.idle, quiet })
 }
 
 // Refusals 8 and 13, with the destination at a place among the ASes.
@@ -86,20 +86,20 @@ fn look_at_memory(
     further: u32,
     table: &mut [u32],
     room: &mut [u32],
-) -> Ran
+) -> Result<Ran, Refusal>
     requires { Located words.now list.now n destination choices.now further }
     ensures { MemoryAnswer words.now destination choices.now further table.old room.old result table.new room.new }
 {
     if table.len() < WORDS_PER_ENTRY * n {
-        return Ran::Refused(Refusal::OutputShort);
+        return Err(Refusal::OutputShort);
     }
     let m = words.len() / WORDS_PER_LINK;
     if room.len() < network::room_need(m, n) {
-        return Ran::Refused(Refusal::RoomShort);
+        return Err(Refusal::RoomShort);
     }
     match choice_fault(choices, 2 * m) {
-        Verdict::Refused(why) => Ran::Refused(why),
-        Verdict::Passes => answer(
+        Err(why) => Err(why),
+        Ok(()) => answer(
             words,
             m,
             list,
@@ -121,14 +121,14 @@ pub fn look_at_network(
     further: u32,
     table: &mut [u32],
     room: &mut [u32],
-) -> Ran
+) -> Result<Ran, Refusal>
     requires { Looking words.now choices.now further }
     ensures { NetworkAnswer words.now destination choices.now further table.old room.old result table.new room.new }
 {
     let mut list = [0u32; 512];
     let n = network::list_ases(words, &mut list);
-    let Place::At(place) = network::place_of(&list, n, destination) else {
-        return Ran::Refused(Refusal::NoDestination);
+    let Some(place) = network::place_of(&list, n, destination) else {
+        return Err(Refusal::NoDestination);
     };
     look_at_memory(words, &list, n, place, choices, further, table, room)
 }

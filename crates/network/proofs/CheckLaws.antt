@@ -1,9 +1,9 @@
 -- The check of a list of link words around its loop: the tests on the list's length, and tables of zeros as its start.
+use Rattle.std.specs.Prelude.{Err}
 use Rattle.std.proofs.Common.{◌≡◌, ℕ, ◌+◌, ◌-◌, ◌%◌, ◌<◌, ◌≤◌, ◌≢◌, List, length, replicate, sym, ap, arith, le-ltb, lt-ltb, eq-eqb, ne_eqb}
 use lib.ListN.{length-replicate}
 use Rattle.rules.specs.declared.Limits.{Limits}
 use Rattle.rules.specs.declared.Refusal.TheVariants.{OverLimit}
-use Rattle.rules.specs.declared.Checked.TheVariants.{Refused}
 use Rattle.rules.specs.Network.{links_of}
 use Rattle.rules.specs.Checks.{check_links, check_words}
 use Rattle.network.specs.Promises.{per_link, count_of, Fresh}
@@ -12,11 +12,11 @@ use Rattle.network.specs.Tables.{Starting}
 use Rattle.network.proofs.PrefixLaws.{count}
 
 module _ (limits : Limits) (ws : List ℕ) where
-  pub broken : length ws % per_link ≢ 0 → Refused OverLimit ≡ check_words limits ws
+  pub broken : length ws % per_link ≢ 0 → Err OverLimit ≡ check_words limits ws
   unfolding check_words
   broken h = simp (ne_eqb _ _ h)
 
-  pub too_many_links : length ws % per_link ≡ 0 → limits.links < count_of ws → Refused OverLimit ≡ check_words limits ws
+  pub too_many_links : length ws % per_link ≡ 0 → limits.links < count_of ws → Err OverLimit ≡ check_words limits ws
   unfolding check_words check_links
   too_many_links z h = simp (eq-eqb _ _ z, lt-ltb limits.links (length (links_of ws)) (omega (arith, count ws)))
 

@@ -1,11 +1,10 @@
 -- One link of the check, and all of them: what is left of the definition at place i is what is left at place i + 1, or a refusal.
+use Rattle.std.specs.Prelude.{Err, Ok, Result}
 use Rattle.std.proofs.Common.{◌≡◌, ℕ, ◌+◌, ◌<◌, ◌≤◌, Bool, true, false, cond, ltb, List, length, sym, ap, ◌∙◌, subst, add-one, arith, le-ltb, lt-ltb}
 use Rattle.rules.specs.declared.Link.{Link}
 use Rattle.rules.specs.declared.Limits.{Limits}
 use Rattle.rules.specs.declared.Refusal.{Refusal}
 use Rattle.rules.specs.declared.Refusal.TheVariants.{PairAgain, TooManyAses}
-use Rattle.rules.specs.declared.Checked.{Checked}
-use Rattle.rules.specs.declared.Checked.TheVariants.{Accepted, Refused}
 use Rattle.rules.specs.Lists.{any_of}
 use Rattle.rules.specs.Network.{link_in_words, with_ends}
 use Rattle.rules.specs.Checks.{is_same_pair, check_from}
@@ -18,7 +17,7 @@ use Rattle.network.proofs.AsTableLaws.{no_ases}
 use Rattle.network.proofs.PairTableLaws.{no_links}
 
 -- a link that was looked at by itself
-module _ (l : Link) (i : ℕ) {r : Checked} {n : ℕ} (looked : Looked l i r) (is : r ≡ Accepted n) where
+module _ (l : Link) (i : ℕ) {r : Result ℕ Refusal} {n : ℕ} (looked : Looked l i r) (is : r ≡ Ok n) where
   pub sound : Sound l
   sound = subst (Looked l i) is looked
 
@@ -31,10 +30,10 @@ module _ {limits : Limits} {homes : Homes} {ws seats pairs : List ℕ} {i n : �
   here = link_in_words ws i
 
   -- the refusals that other links bear on, at place i before place j
-  abbrev others : ℕ → Checked
+  abbrev others : ℕ → Result ℕ Refusal
   others j =
-      cond (any_of (is_same_pair here) (seen_at ws i)) (Refused (PairAgain i))
-      (cond (ltb limits.ases (length (ases_at ws j))) (Refused (TooManyAses i))
+      cond (any_of (is_same_pair here) (seen_at ws i)) (Err (PairAgain i))
+      (cond (ltb limits.ases (length (ases_at ws j))) (Err (TooManyAses i))
       (check_from limits (seen_at ws j) (ases_at ws j) j (links_from ws (i + 1))))
 
   check_here : check_at limits ws i ≡ fault_of_one_link here i (others (i + 1))
@@ -51,16 +50,16 @@ module _ {limits : Limits} {homes : Homes} {ws seats pairs : List ℕ} {i n : �
   }
 
   module _ {l : Link} (e : l ≡ here) where
-    pub own : {r : Checked} {f : Refusal} → Looked l i r → r ≡ Refused f → Stepped limits homes ws i seats pairs r
+    pub own : {r : Result ℕ Refusal} {f : Refusal} → Looked l i r → r ≡ Err f → Stepped limits homes ws i seats pairs r
     own {r} {f} looked is =
         subst (Stepped limits homes ws i seats pairs) (sym is)
-        (check_here ∙ subst (λ (k : Link). Looked k i (Refused f)) e (subst (Looked l i) is looked) (others (i + 1)))
+        (check_here ∙ subst (λ (k : Link). Looked k i (Err f)) e (subst (Looked l i) is looked) (others (i + 1)))
 
     module _ (s : Sound l) {again : Bool} {u : List ℕ} (p : Paired homes.pairs ws i pairs u again) where
       after_own : check_at limits ws i ≡ others (i + 1)
       after_own = check_here ∙ (subst Sound e s).passed i (others (i + 1))
 
-      pub pair_again : again ≡ true → check_at limits ws i ≡ Refused (PairAgain i)
+      pub pair_again : again ≡ true → check_at limits ws i ≡ Err (PairAgain i)
       pair_again is = after_own ∙ simp (sym p.seen ∙ is)
 
       module _ (is : again ≡ false) {v : List ℕ} {m : ℕ} (k : NotedEnds homes.ases l seats n v m) where
@@ -70,12 +69,12 @@ module _ {limits : Limits} {homes : Homes} {ws seats pairs : List ℕ} {i n : �
             (ap (λ (j : Link). with_ends j (ases_at ws i)) e ∙ sym (ap (ases_at ws) (add-one i)))
             (k.known (ases_at ws i) g.tables.known)
 
-        pub too_many : limits.ases < m → check_at limits ws i ≡ Refused (TooManyAses i)
+        pub too_many : limits.ases < m → check_at limits ws i ≡ Err (TooManyAses i)
         too_many h =
             let h' : limits.ases < length (ases_at ws (i + 1)) = omega (arith, known.count) in
             after_own ∙ simp (sym p.seen ∙ is, lt-ltb _ _ h')
 
-        pub next : m ≤ limits.ases → Stepped limits homes ws i v u (Accepted m)
+        pub next : m ≤ limits.ases → Stepped limits homes ws i v u (Ok m)
         unfolding check_at
         next h =
             let h' : length (ases_at ws (i + 1)) ≤ limits.ases = omega (arith, known.count) in
@@ -101,7 +100,7 @@ Tables-none {limits} {homes} {ws} {seats} {pairs} g = record {
   few = omega arith;
 }
 
-pub check_end : (limits : Limits) (ws : List ℕ) (i n : ℕ) → count_of ws ≤ i → n ≡ length (ases_at ws i) → Accepted n ≡ check_at limits ws i
+pub check_end : (limits : Limits) (ws : List ℕ) (i n : ℕ) → count_of ws ≤ i → n ≡ length (ases_at ws i) → Ok n ≡ check_at limits ws i
 unfolding check_at check_from
 check_end limits ws i n h e =
-    ap Accepted e ∙ sym (ap (check_from limits (seen_at ws i) (ases_at ws i) i) (links_end ws i h))
+    ap Ok e ∙ sym (ap (check_from limits (seen_at ws i) (ases_at ws i) i) (links_end ws i h))

@@ -7,12 +7,11 @@
 --   fault_of_one_link l i rest  refusal 2, 3 or 4 of link l at place i, which other links do not bear on; else rest
 --   Sound l            link l has none of these
 --   Looked l i r       what r says of link l by itself
-use Rattle.std.specs.Prelude.{◌≡◌, ℕ, zero, suc, ◌*◌, cond, ◌||◌, ◌≢◌, List, [], ◌∷◌, drop, ◌==◌, nat_lt}
+use Rattle.rules.specs.declared.Refusal.{Refusal}
+use Rattle.std.specs.Prelude.{◌≡◌, ℕ, zero, suc, ◌*◌, cond, ◌||◌, ◌≢◌, List, [], ◌∷◌, drop, ◌==◌, nat_lt, Err, Ok, Result}
 use Rattle.rules.specs.declared.Link.{Link}
 use Rattle.rules.specs.declared.Limits.{Limits}
 use Rattle.rules.specs.declared.Refusal.TheVariants.{ZeroAs, NoRelation, EqualEnds}
-use Rattle.rules.specs.declared.Checked.{Checked}
-use Rattle.rules.specs.declared.Checked.TheVariants.{Accepted, Refused}
 use Rattle.rules.specs.Network.{links_of, link_in_words, with_ends}
 use Rattle.rules.specs.Checks.{check_from}
 use Rattle.network.specs.Promises.{per_link}
@@ -28,19 +27,19 @@ abbrev pub ases_at : List ℕ → ℕ → List ℕ
 ases_at ws zero = []
 ases_at ws (suc i) = with_ends (link_in_words ws i) (ases_at ws i)
 
-unfoldable pub check_at : Limits → List ℕ → ℕ → Checked
+unfoldable pub check_at : Limits → List ℕ → ℕ → Result ℕ Refusal
 check_at limits ws i = check_from limits (seen_at ws i) (ases_at ws i) i (links_from ws i)
 
-unfoldable pub fault_of_one_link : Link → ℕ → Checked → Checked
+unfoldable pub fault_of_one_link : Link → ℕ → Result ℕ Refusal → Result ℕ Refusal
 fault_of_one_link l i rest =
-    cond (l.a == 0 || l.b == 0) (Refused (ZeroAs i))
-    (cond (nat_lt 1 l.relation) (Refused (NoRelation i)) (cond (l.a == l.b) (Refused (EqualEnds i)) rest))
+    cond (l.a == 0 || l.b == 0) (Err (ZeroAs i))
+    (cond (nat_lt 1 l.relation) (Err (NoRelation i)) (cond (l.a == l.b) (Err (EqualEnds i)) rest))
 
 pub record Sound (l : Link) : Type 0 where
   pub one : l.a ≢ 0
   pub other : l.b ≢ 0
-  pub passed : (i : ℕ) (rest : Checked) → fault_of_one_link l i rest ≡ rest
+  pub passed : (i : ℕ) (rest : Result ℕ Refusal) → fault_of_one_link l i rest ≡ rest
 
-abbrev pub Looked : Link → ℕ → Checked → Type 0
-Looked l i (Accepted n) = Sound l
-Looked l i (Refused f) = (rest : Checked) → fault_of_one_link l i rest ≡ Refused f
+abbrev pub Looked : Link → ℕ → Result ℕ Refusal → Type 0
+Looked l i (Ok n) = Sound l
+Looked l i (Err f) = (rest : Result ℕ Refusal) → fault_of_one_link l i rest ≡ Err f

@@ -8,8 +8,8 @@
 use Rattle.std.specs.Prelude.{◌≡◌, ℕ, ◌+◌, ◌*◌, ◌/◌, ◌<◌, ◌≤◌, ◌≢◌, List, ◌++◌, length, drop, replicate, slice_index, slice_set}
 use Rattle.rules.specs.declared.Limits.{Limits}
 use Rattle.rules.specs.declared.Link.{Link}
-use Rattle.network.specs.declared.Place.{Place}
-use Rattle.network.specs.declared.Place.TheVariants.{At, Nowhere}
+use Rattle.std.specs.Prelude.{Option}
+use Rattle.std.specs.Prelude.{Some, None}
 
 -- 'three per link'
 abbrev pub per_link : ℕ
@@ -39,6 +39,6 @@ pub record Listed (out l u : List ℕ) (r : ℕ) : Type 0 where
   pub count : r ≡ length out
   pub words : u ≡ out ++ drop r l
 
-abbrev pub Stands : List ℕ → ℕ → ℕ → Place → Type 0
-Stands l n x (At i) = (i < n) × (slice_index l i ≡ x)
-Stands l n x Nowhere = (i : ℕ) → i < n → slice_index l i ≢ x
+abbrev pub Stands : List ℕ → ℕ → ℕ → Option ℕ → Type 0
+Stands l n x (Some i) = (i < n) × (slice_index l i ≡ x)
+Stands l n x None = (i : ℕ) → i < n → slice_index l i ≢ x

@@ -6,11 +6,10 @@
 --   Pairs homes ws i t   table t holds the links before place i, link j as j + 1
 --   Tables limits homes ws i n seats pairs   both tables, after the links before place i
 --   Open, Noted, NotedEnds, Places, Pairing, Paired, Sized, Stepping, Stepped, Starting   what the steps ask and say
-use Rattle.std.specs.Prelude.{◌≡◌, ℕ, ◌+◌, ◌-◌, ◌*◌, ◌/◌, ◌%◌, ◌<◌, ◌≤◌, Bool, false, ◌≢◌, List, length, replicate, ◌==◌}
+use Rattle.rules.specs.declared.Refusal.{Refusal}
+use Rattle.std.specs.Prelude.{◌≡◌, ℕ, ◌+◌, ◌-◌, ◌*◌, ◌/◌, ◌%◌, ◌<◌, ◌≤◌, Bool, false, ◌≢◌, List, length, replicate, ◌==◌, Err, Ok, Result}
 use Rattle.rules.specs.declared.Link.{Link}
 use Rattle.rules.specs.declared.Limits.{Limits}
-use Rattle.rules.specs.declared.Checked.{Checked}
-use Rattle.rules.specs.declared.Checked.TheVariants.{Accepted, Refused}
 use Rattle.rules.specs.Lists.{In, any_of}
 use Rattle.rules.specs.Network.{link_in_words, insert, with_ends}
 use Rattle.rules.specs.Checks.{is_same_pair}
@@ -109,9 +108,9 @@ pub record Stepping (limits : Limits) (homes : Homes) (ws : List ℕ) (i n : ℕ
   pub few : i < limits.links
 
 -- the reply to link i: a refusal is that to the whole rest; else the rest goes on with the n ASes known now
-abbrev pub Stepped : Limits → Homes → List ℕ → ℕ → List ℕ → List ℕ → Checked → Type 0
-Stepped limits homes ws i seats pairs (Refused f) = check_at limits ws i ≡ Refused f
-Stepped limits homes ws i seats pairs (Accepted n) =
+abbrev pub Stepped : Limits → Homes → List ℕ → ℕ → List ℕ → List ℕ → Result ℕ Refusal → Type 0
+Stepped limits homes ws i seats pairs (Err f) = check_at limits ws i ≡ Err f
+Stepped limits homes ws i seats pairs (Ok n) =
     (check_at limits ws i ≡ check_at limits ws (i + 1)) × Tables limits homes ws (i + 1) n seats pairs
 
 -- whole links, not too many, and both tables zero

@@ -8,7 +8,7 @@ ghost use Rattle.rules.specs.Ascending.{Ascending};
 ghost use Rattle.network.specs.Promises.{HasLink, with_link, Fresh, Stands, Listed};
 ghost use Rattle.network.specs.Tables.{home_of_as};
 
-use rules::{Checked, Limits, Link, Refusal};
+use rules::{Limits, Link, Refusal};
 
 mod gather;
 mod order;
@@ -51,14 +51,14 @@ pub(crate) fn check_with(
     limits: Limits,
     seats: &mut [u32],
     pairs: &mut [u16],
-) -> Checked
+) -> Result<usize, Refusal>
     requires { Fresh limits seats.old pairs.old }
     ensures reply { result ≡ check_words limits words.now }
     ensures lengths { (length seats.new ≡ length seats.old) × (length pairs.new ≡ length pairs.old) }
 {
     if words.len() % WORDS_PER_LINK == 0 {
         if limits.links < words.len() / WORDS_PER_LINK {
-            return Checked::Refused(Refusal::OverLimit);
+            return Err(Refusal::OverLimit);
         }
         let homes = steps::Homes {
             ases: seats.len() - limits.ases - 1,
@@ -66,11 +66,11 @@ pub(crate) fn check_with(
         };
         return steps::take_links(words, limits, homes, seats, pairs);
     }
-    Checked::Refused(Refusal::OverLimit)
+    Err(Refusal::OverLimit)
 }
 
 // The check of a list of link words: refusals 1 to 6, or the number of ASes. The tables have 2,048 and 5,632 homes.
-pub fn check_links(words: &[u32]) -> Checked
+pub fn check_links(words: &[u32]) -> Result<usize, Refusal>
     ensures { result ≡ check_words base_limits words.now }
 {
     let mut seats = [0u32; 2561];
@@ -97,25 +97,18 @@ pub fn list_ases(words: &[u32], list: &mut [u32]) -> usize
     sorted::list_plainly(words, list)
 }
 
-// Where an AS stands in an ascending list.
-#[derive(Clone, Copy)]
-pub enum Place {
-    At(usize),
-    Nowhere,
-}
-
 // Where x stands among the first n words.
-pub fn place_of(list: &[u32], n: usize, x: u32) -> Place
+pub fn place_of(list: &[u32], n: usize, x: u32) -> Option<usize>
     requires { (n ≤ length list.now) × Ascending (take n list.now) }
     ensures { Stands list.now n x result }
 {
     let k = sorted::first_from(list, n, x);
     if k < n {
         if list[k] == x {
-            return Place::At(k);
+            return Some(k);
         }
     }
-    Place::Nowhere
+    None
 }
 
 // Every word is 0.

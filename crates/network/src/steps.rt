@@ -4,7 +4,7 @@ ghost use Rattle.network.specs.Prefix.{check_at, Looked};
 ghost use Rattle.network.specs.Tables.{Stepping, Stepped, Starting};
 
 use super::{WORDS_PER_LINK, link_at, slots};
-use rules::{Checked, Limits, Link, Refusal};
+use rules::{Limits, Link, Refusal};
 
 // How many slots of the two tables of the check are homes, where a search can begin.
 #[derive(Clone, Copy)]
@@ -14,22 +14,22 @@ pub struct Homes {
 }
 
 // Refusals 2 to 4 of link l at place i, which other links do not bear on.
-fn own_fault(l: Link, i: usize) -> Checked
+fn own_fault(l: Link, i: usize) -> Result<usize, Refusal>
     ensures { Looked l i result }
 {
     if l.a == 0 {
-        return Checked::Refused(Refusal::ZeroAs(i));
+        return Err(Refusal::ZeroAs(i));
     }
     if l.b == 0 {
-        return Checked::Refused(Refusal::ZeroAs(i));
+        return Err(Refusal::ZeroAs(i));
     }
     if 1 < l.relation {
-        return Checked::Refused(Refusal::NoRelation(i));
+        return Err(Refusal::NoRelation(i));
     }
     if l.a == l.b {
-        return Checked::Refused(Refusal::EqualEnds(i));
+        return Err(Refusal::EqualEnds(i));
     }
-    Checked::Accepted(0)
+    Ok(0)
 }
 
 // Link i: its refusal, or the number of ASes that are known after it.
@@ -41,23 +41,23 @@ fn take_link(
     homes: Homes,
     seats: &mut [u32],
     pairs: &mut [u16],
-) -> Checked
+) -> Result<usize, Refusal>
     requires { Stepping limits homes words.now i n seats.old pairs.old }
     ensures { Stepped limits homes words.now i seats.new pairs.new result }
 {
     let l = link_at(words, i);
     let own = own_fault(l, i);
-    let Checked::Accepted(_) = own else {
+    let Ok(_) = own else {
         return own;
     };
     if slots::note_pair(words, pairs, homes.pairs, i) {
-        return Checked::Refused(Refusal::PairAgain(i));
+        return Err(Refusal::PairAgain(i));
     }
     let m = slots::note_ends(seats, homes.ases, n, l);
     if limits.ases < m {
-        return Checked::Refused(Refusal::TooManyAses(i));
+        return Err(Refusal::TooManyAses(i));
     }
-    Checked::Accepted(m)
+    Ok(m)
 }
 
 // All links, from empty tables.
@@ -67,7 +67,7 @@ pub fn take_links(
     homes: Homes,
     seats: &mut [u32],
     pairs: &mut [u16],
-) -> Checked
+) -> Result<usize, Refusal>
     requires { Starting limits homes words.now seats.old pairs.old }
     ensures { result ≡ check_at limits words.now 0 }
 {
@@ -76,11 +76,11 @@ pub fn take_links(
     let mut n = 0;
     while i < m {
         let step = take_link(words, i, n, limits, homes, seats, pairs);
-        let Checked::Accepted(known) = step else {
+        let Ok(known) = step else {
             return step;
         };
         n = known;
         i += 1;
     }
-    Checked::Accepted(n)
+    Ok(n)
 }

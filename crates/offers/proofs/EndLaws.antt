@@ -10,8 +10,8 @@ use lib.Seq.{length-take-le, take-length, take_at, get_or-take}
 use Rattle.rules.specs.declared.Link.{Link}
 use Rattle.rules.specs.Network.{links_of, link_in_words, ases_of}
 use Rattle.rules.proofs.NetworkLaws.{Ends, ases_Ascending, ases_In}
-use Rattle.network.specs.declared.Place.{Place}
-use Rattle.network.specs.declared.Place.TheVariants.{At, Nowhere}
+use Rattle.std.specs.Prelude.{Option}
+use Rattle.std.specs.Prelude.{Some, None}
 use Rattle.network.specs.Promises.{Stands, Listed}
 use Rattle.network.proofs.InsertLaws.{ascending_at}
 use Rattle.network.proofs.ListedLaws.{listed_front}
@@ -33,13 +33,13 @@ module _ {l : List ℕ} {n x : ℕ} (a : Among l n x) where
   stands : (index_in (take n l) x < length (take n l)) × (get_or (take n l) (index_in (take n l) x) 0 ≡ x)
   stands = place-In (take n l) x a.member
 
-  pub somewhere : {r : Place} → Stands l n x r → r ≡ Nowhere → ⊥
+  pub somewhere : {r : Option ℕ} → Stands l n x r → r ≡ None → ⊥
   somewhere s e =
       let h : index_in (take n l) x < n = omega (arith, long, stands.0) in
       subst (Stands l n x) e s (index_in (take n l) x) h (sym (get_or-take n l (index_in (take n l) x) 0 h) ∙ stands.1)
 
   -- and nowhere else
-  pub at_place : {r : Place} → Stands l n x r → {i : ℕ} → r ≡ At i → (i < n) × (i ≡ index_in (take n l) x)
+  pub at_place : {r : Option ℕ} → Stands l n x r → {i : ℕ} → r ≡ Some i → (i < n) × (i ≡ index_in (take n l) x)
   at_place s {i} e =
       let (h, f) = subst (Stands l n x) e s in
       (h, go (omega (arith, long)) (get_or-take n l i 0 h ∙ f) (dec_lt i (index_in (take n l) x)) (dec_lt (index_in (take n l) x) i))

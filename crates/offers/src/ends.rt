@@ -4,7 +4,6 @@ ghost use Rattle.rules.specs.Network.{links_of, link_in_words, ases_of};
 ghost use Rattle.offers.specs.Ways.{index_in};
 ghost use Rattle.offers.specs.Placing.{kind_of_direction, Among, Placing, put_ends};
 
-use network::Place;
 use rules::Link;
 
 // The kind of direction k, which is the link's, seen from its hearer.
@@ -31,7 +30,7 @@ pub fn search_in(list: &[u32], n: usize, x: u32) -> u32
     requires { Among list.now n x }
     ensures { result ≡ index_in (take n list.now) x }
 {
-    let Place::At(i) = network::place_of(list, n, x) else {
+    let Some(i) = network::place_of(list, n, x) else {
         return 0;
     };
     i as u32

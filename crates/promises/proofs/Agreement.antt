@@ -9,11 +9,11 @@ use Prim.Native.Nat.{ℕ}
 use mathlib.Core.Path.{◌≡◌, sym, ◌∙◌}
 use mathlib.Core.List.{List}
 use lib.ListN.{length}
+use Rattle.rules.specs.Replies.{Verdict}
+use Rattle.rules.specs.declared.Refusal.{Refusal}
+use Rattle.std.specs.Prelude.{Err, Ok, Result}
 use Rattle.rules.specs.declared.Link.{Link}
 use Rattle.rules.specs.declared.Limits.{Limits}
-use Rattle.rules.specs.declared.Checked.{Checked}
-use Rattle.rules.specs.declared.Verdict.{Verdict}
-use Rattle.rules.specs.declared.Verdict.TheVariants.{Passes, Refused}
 use Rattle.rules.specs.Network.{links_of}
 use Rattle.rules.specs.Checks.{base_limits, check_words}
 use Rattle.linktext.specs.Entries as text
@@ -37,48 +37,48 @@ twice e f = (once e.0 f.0, once e.1 f.1)
 
 -- By equation --------------------------------------------------------------------------------------------------------------
 
-abbrev pub CheckLinks : List ℕ → Checked → Type 0
+abbrev pub CheckLinks : List ℕ → Result ℕ Refusal → Type 0
 CheckLinks ws r = r ≡ check_words base_limits ws
 
-pub check_once : (ws : List ℕ) {r q : Checked} → CheckLinks ws r → CheckLinks ws q → r ≡ q
+pub check_once : (ws : List ℕ) {r q : Result ℕ Refusal} → CheckLinks ws r → CheckLinks ws q → r ≡ q
 check_once ws = once
 
-abbrev pub ReadText : List ℕ → List ℕ → Checked → List ℕ → Type 0
+abbrev pub ReadText : List ℕ → List ℕ → Result ℕ Refusal → List ℕ → Type 0
 ReadText t ws r ws' = (r ≡ text.read_reply base_limits t (length ws)) × (ws' ≡ text.final_words base_limits t ws)
 
-pub read_text_once : (t ws : List ℕ) {r q : Checked} {u v : List ℕ} → ReadText t ws r u → ReadText t ws q v → (r ≡ q) × (u ≡ v)
+pub read_text_once : (t ws : List ℕ) {r q : Result ℕ Refusal} {u v : List ℕ} → ReadText t ws r u → ReadText t ws q v → (r ≡ q) × (u ≡ v)
 read_text_once t ws = twice
 
-abbrev pub WriteText : List ℕ → List ℕ → Checked → List ℕ → Type 0
+abbrev pub WriteText : List ℕ → List ℕ → Result ℕ Refusal → List ℕ → Type 0
 WriteText ws b r b' = (r ≡ text.write_reply base_limits ws (length b)) × (b' ≡ text.final_bytes base_limits ws b)
 
-pub write_text_once : (ws b : List ℕ) {r q : Checked} {u v : List ℕ} → WriteText ws b r u → WriteText ws b q v → (r ≡ q) × (u ≡ v)
+pub write_text_once : (ws b : List ℕ) {r q : Result ℕ Refusal} {u v : List ℕ} → WriteText ws b r u → WriteText ws b q v → (r ≡ q) × (u ≡ v)
 write_text_once ws b = twice
 
-abbrev pub Find : List ℕ → List ℕ → Found → List ℕ → Type 0
+abbrev pub Find : List ℕ → List ℕ → Result Found Refusal → List ℕ → Type 0
 Find ws room r room' = (r ≡ findings_reply base_limits ws (length room)) × (room' ≡ final_room base_limits ws room)
 
-pub Find-once : (ws room : List ℕ) {r q : Found} {u v : List ℕ} → Find ws room r u → Find ws room q v → (r ≡ q) × (u ≡ v)
+pub Find-once : (ws room : List ℕ) {r q : Result Found Refusal} {u v : List ℕ} → Find ws room r u → Find ws room q v → (r ≡ q) × (u ≡ v)
 Find-once ws room = twice
 
-abbrev pub WriteSheet : List ℕ → ℕ → List ℕ → List ℕ → Checked → List ℕ → Type 0
+abbrev pub WriteSheet : List ℕ → ℕ → List ℕ → List ℕ → Result ℕ Refusal → List ℕ → Type 0
 WriteSheet ws d t b r b' = (r ≡ sheet.write_reply base_limits 511 ws d t (length b)) × (b' ≡ sheet.final_bytes base_limits 511 ws d t b)
 
-pub write_sheet_once : (ws : List ℕ) (d : ℕ) (t b : List ℕ) {r q : Checked} {u v : List ℕ} → WriteSheet ws d t b r u → WriteSheet ws d t b q v
+pub write_sheet_once : (ws : List ℕ) (d : ℕ) (t b : List ℕ) {r q : Result ℕ Refusal} {u v : List ℕ} → WriteSheet ws d t b r u → WriteSheet ws d t b q v
     → (r ≡ q) × (u ≡ v)
 write_sheet_once ws d t b = twice
 
-abbrev pub ReadSheet : List ℕ → List ℕ → SheetRead → List ℕ → Type 0
+abbrev pub ReadSheet : List ℕ → List ℕ → Result SheetRead Refusal → List ℕ → Type 0
 ReadSheet s t r t' = (r ≡ sheet.read_reply base_limits s (length t)) × (t' ≡ sheet.final_table base_limits s t)
 
-pub read_sheet_once : (s t : List ℕ) {r q : SheetRead} {u v : List ℕ} → ReadSheet s t r u → ReadSheet s t q v → (r ≡ q) × (u ≡ v)
+pub read_sheet_once : (s t : List ℕ) {r q : Result SheetRead Refusal} {u v : List ℕ} → ReadSheet s t r u → ReadSheet s t q v → (r ≡ q) × (u ≡ v)
 read_sheet_once s t = twice
 
 pub judge_once : {limits : Limits} {bound : ℕ} {ws s room : List ℕ} {r q : Verdict} {u v : List ℕ} → Judged limits bound ws s room r u
     → Judged limits bound ws s room q v → (r ≡ q) × (u ≡ v)
 judge_once = Judged-one
 
-pub run_once : {limits : Limits} {ws : List ℕ} {d : ℕ} {cs : List ℕ} {n : ℕ} {t r : List ℕ} {x y : Ran} {t₁ t₂ r₁ r₂ : List ℕ}
+pub run_once : {limits : Limits} {ws : List ℕ} {d : ℕ} {cs : List ℕ} {n : ℕ} {t r : List ℕ} {x y : Result Ran Refusal} {t₁ t₂ r₁ r₂ : List ℕ}
     → Answered limits ws d cs n t r x t₁ r₁ → Answered limits ws d cs n t r y t₂ r₂ → (x ≡ y) × (t₁ ≡ t₂) × (r₁ ≡ r₂)
 run_once {limits} {ws} {d} {cs} {n} {t} {r} a b = Answered-once limits ws d cs n t r a b
 
@@ -89,8 +89,8 @@ pub stable_words_once : (ls : List Link) (d : ℕ) (s t : List ℕ) → StableTa
 stable_words_once ls d s t a b = once (stable_words ls d s a) (stable_words ls d t b)
 
 pub after_once : (v : Verdict) (ls : List Link) (d : ℕ) (old s t : List ℕ) → TableAfter v ls d old s → TableAfter v ls d old t → s ≡ t
-after_once Passes ls d old s t a b = once (filled_words ls d old s a) (filled_words ls d old t b)
-after_once (Refused why) ls d old s t a b = once a b
+after_once (Ok tt) ls d old s t a b = once (filled_words ls d old s a) (filled_words ls d old t b)
+after_once (Err why) ls d old s t a b = once a b
 
 pub table_once : (limits : Limits) (ws : List ℕ) (d : ℕ) (t r : List ℕ) {x y : Verdict} {t₁ t₂ r₁ r₂ : List ℕ} → Tabled limits ws d t r x t₁ r₁
     → Tabled limits ws d t r y t₂ r₂ → (x ≡ y) × (t₁ ≡ t₂) × (r₁ ≡ r₂)

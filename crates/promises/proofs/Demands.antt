@@ -8,8 +8,8 @@ use mathlib.Core.Path.{◌≡◌, sym, subst}
 use mathlib.Core.Bool.{true}
 use mathlib.Core.List.{List}
 use lib.ListN.{length}
+use Rattle.std.specs.Prelude.{Ok}
 use Rattle.rules.specs.declared.Link.{Link}
-use Rattle.rules.specs.declared.Verdict.TheVariants.{Passes}
 use Rattle.rules.specs.Lists.{In}
 use Rattle.rules.specs.Network.{links_of, ases_of, arcs_of}
 use Rattle.rules.specs.Checks.{base_limits, needed_room}
@@ -32,13 +32,13 @@ pub table_words : (ls : List Link) (d : ℕ) (ws : List ℕ) → StableTable ls 
 table_words = stable_words
 
 -- 'Whenever the machine, started fresh, has nothing waiting, under every choice of deliveries, its sheet passes.'
-pub quiet_sheet_passes : (ws : List ℕ) (d : ℕ) (choices : List ℕ) (further room : ℕ) → Below 4294967296 ws → fault_of_links base_limits ws ≡ Passes
+pub quiet_sheet_passes : (ws : List ℕ) (d : ℕ) (choices : List ℕ) (further room : ℕ) → Below 4294967296 ws → fault_of_links base_limits ws ≡ Ok tt
     → In d (ases_of (links_of ws)) → needed_room (length (links_of ws)) (length (ases_of (links_of ws))) ≤ room
     → is_quiet (lowest (arcs_of (links_of ws)) (run_of (arcs_of (links_of ws)) d choices further).state.waiting) ≡ true
-    → judge_reply base_limits 511 ws (sheet_of d (entries_for (run_of (arcs_of (links_of ws)) d choices further).state.lines (ases_of (links_of ws)))) room ≡ Passes
+    → judge_reply base_limits 511 ws (sheet_of d (entries_for (run_of (arcs_of (links_of ws)) d choices further).state.lines (ases_of (links_of ws)))) room ≡ Ok tt
 quiet_sheet_passes ws d choices further room below accepted has enough quiet =
     let ls = links_of ws in
     let net = arcs_of ls in
     let same = run_quiet net (direction_unique ls) (arcs_positive ls) d choices further quiet in
     let passes = judge_stable base_limits 511 ws d room (ready ws d room below accepted has enough) in
-    subst (λ (R : Routing). judge_reply base_limits 511 ws (sheet_of d (entries_for R (ases_of ls))) room ≡ Passes) (sym same) passes
+    subst (λ (R : Routing). judge_reply base_limits 511 ws (sheet_of d (entries_for R (ases_of ls))) room ≡ Ok tt) (sym same) passes

@@ -4,9 +4,9 @@
 --   Holding w P        P of the words that w holds; of every list of too many links where w counts too many
 --   TextWritten, FoundIn, SheetWritten   a text, the findings, a sheet: the reply and lent memory afterwards
 -- The check says `check_words`; the other promises are `Tabled`, `Judged` and `Answered` of the crates table, judge and machine.
-use Rattle.std.specs.Prelude.{ℕ, ◌*◌, ◌<◌, ◌≤◌, ◌≡◌, cond, List, ◌++◌, leb, length, take, drop, replicate}
+use Rattle.rules.specs.declared.Refusal.{Refusal}
+use Rattle.std.specs.Prelude.{ℕ, ◌*◌, ◌<◌, ◌≤◌, ◌≡◌, cond, List, ◌++◌, leb, length, take, drop, replicate, Result}
 use Rattle.rules.specs.declared.Link.{Link}
-use Rattle.rules.specs.declared.Checked.{Checked}
 use Rattle.rules.specs.Network.{flat}
 use Rattle.rules.specs.Checks.{base_limits}
 use Rattle.linktext.specs.Entries as text
@@ -26,14 +26,14 @@ pub record Holding (w : Words) (P : List ℕ → Type 0) : Type 0 where
   pub few : w.count ≤ 1536 → P (take (3 * w.count) w.words)
   pub many : 1536 < w.count → (ls : List Link) → 1536 < length ls → P (flat ls)
 
-pub record TextWritten (ws bytes : List ℕ) (r : Checked) (bytes' : List ℕ) : Type 0 where
+pub record TextWritten (ws bytes : List ℕ) (r : Result ℕ Refusal) (bytes' : List ℕ) : Type 0 where
   pub replies : r ≡ text.write_reply base_limits ws (length bytes)
   pub written : bytes' ≡ text.final_bytes base_limits ws bytes
 
-pub record FoundIn (ws room : List ℕ) (r : Found) (room' : List ℕ) : Type 0 where
+pub record FoundIn (ws room : List ℕ) (r : Result Found Refusal) (room' : List ℕ) : Type 0 where
   pub replies : r ≡ findings_reply base_limits ws (length room)
   pub zeroed : room' ≡ final_room base_limits ws room
 
-pub record SheetWritten (ws : List ℕ) (d : ℕ) (table bytes : List ℕ) (r : Checked) (bytes' : List ℕ) : Type 0 where
+pub record SheetWritten (ws : List ℕ) (d : ℕ) (table bytes : List ℕ) (r : Result ℕ Refusal) (bytes' : List ℕ) : Type 0 where
   pub replies : r ≡ sheet.write_reply base_limits 511 ws d table (length bytes)
   pub written : bytes' ≡ sheet.final_bytes base_limits 511 ws d table bytes

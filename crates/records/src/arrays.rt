@@ -5,7 +5,7 @@ ghost use Rattle.rules.specs.Checks.{base_limits, check_words};
 ghost use Rattle.records.specs.Entries.{loaded};
 
 use super::Words;
-use rules::{Checked, Link};
+use rules::{Link, Refusal};
 
 // So many, but at most 16.
 pub(crate) fn at_most(n: usize) -> usize
@@ -15,7 +15,7 @@ pub(crate) fn at_most(n: usize) -> usize
 }
 
 // The check of the first n links.
-pub fn check_links(links: [Link; 16], n: usize) -> Checked
+pub fn check_links(links: [Link; 16], n: usize) -> Result<usize, Refusal>
     ensures { result ≡ check_words base_limits (flat (take n links)) }
 {
     let m = at_most(n);

@@ -13,7 +13,7 @@ ghost use Rattle.records.specs.Entries.{loaded, TextWritten, FoundIn, SheetWritt
 use findings::Found;
 use machine::Ran;
 use network::WORDS_PER_LINK;
-use rules::{Checked, Link, Verdict};
+use rules::{Link, Refusal};
 
 pub mod arrays;
 pub mod loaded;
@@ -55,7 +55,7 @@ pub fn load(links: &[Link]) -> Words
 }
 
 // The number of the links' ASes, or the first refusal of 1 to 6.
-pub fn check_links(links: &[Link]) -> Checked
+pub fn check_links(links: &[Link]) -> Result<usize, Refusal>
     ensures { result ≡ check_words base_limits (flat links.now) }
 {
     let w = load(links);
@@ -63,7 +63,7 @@ pub fn check_links(links: &[Link]) -> Checked
 }
 
 // The links' text into lent bytes: the number of bytes, or refusals 1, 3, 8.
-pub fn write_text(links: &[Link], bytes: &mut [u8]) -> Checked
+pub fn write_text(links: &[Link], bytes: &mut [u8]) -> Result<usize, Refusal>
     ensures { TextWritten (flat links.now) bytes.old result bytes.new }
 {
     let w = load(links);
@@ -71,7 +71,7 @@ pub fn write_text(links: &[Link], bytes: &mut [u8]) -> Checked
 }
 
 // Whether there is a customer ring, and whether the network is joined; or refusals 1, 2 to 6, 8.
-pub fn find(links: &[Link], room: &mut [u32]) -> Found
+pub fn find(links: &[Link], room: &mut [u32]) -> Result<Found, Refusal>
     ensures { FoundIn (flat links.now) room.old result room.new }
 {
     let w = load(links);
@@ -84,7 +84,7 @@ pub fn stable_table(
     destination: u32,
     table: &mut [u32],
     room: &mut [u32],
-) -> Verdict
+) -> Result<(), Refusal>
     ensures { Tabled base_limits (flat links.now) destination table.old room.old result table.new room.new }
 {
     let w = load(links);
@@ -92,7 +92,7 @@ pub fn stable_table(
 }
 
 // A table's sheet into lent bytes: the number of bytes, or refusals 1, 2 to 6, 7, 11, 8.
-pub fn write_sheet(links: &[Link], destination: u32, table: &[u32], bytes: &mut [u8]) -> Checked
+pub fn write_sheet(links: &[Link], destination: u32, table: &[u32], bytes: &mut [u8]) -> Result<usize, Refusal>
     ensures { SheetWritten (flat links.now) destination table.now bytes.old result bytes.new }
 {
     let w = load(links);
@@ -100,7 +100,7 @@ pub fn write_sheet(links: &[Link], destination: u32, table: &[u32], bytes: &mut 
 }
 
 // The judge of a sheet: it passes, or refusals 1, 2 to 6, 8 (room), 10, 7, 11, 12.
-pub fn judge_sheet(links: &[Link], sheet: &[u8], room: &mut [u32]) -> Verdict
+pub fn judge_sheet(links: &[Link], sheet: &[u8], room: &mut [u32]) -> Result<(), Refusal>
     ensures { Judged base_limits 511 (flat links.now) sheet.now room.old result room.new }
 {
     let w = load(links);
@@ -115,7 +115,7 @@ pub fn run(
     further: u32,
     table: &mut [u32],
     room: &mut [u32],
-) -> Ran
+) -> Result<Ran, Refusal>
     ensures { Answered base_limits (flat links.now) destination choices.now further table.old room.old result table.new room.new }
 {
     let w = load(links);

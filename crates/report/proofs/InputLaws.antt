@@ -15,19 +15,17 @@ use lib.Dec.{eqb}
 use lib.ListN.{length, take, drop, length-drop, drop_of_length-le}
 use lib.Seq.{take-length}
 use borrow.Author.Tests.{le-leb, lt-leb}
+use Rattle.rules.specs.Replies.{Verdict}
+use Rattle.std.specs.Prelude.{Err, Ok, Result}
 use Rattle.rules.specs.declared.Link.{Link}
 use Rattle.rules.specs.declared.Refusal.{Refusal}
 use Rattle.rules.specs.declared.Refusal.TheVariants.{OverLimit, Unreadable}
-use Rattle.rules.specs.declared.Checked.{Checked}
-use Rattle.rules.specs.declared.Checked.TheVariants as checked
-use Rattle.rules.specs.declared.Verdict.{Verdict}
-use Rattle.rules.specs.declared.Verdict.TheVariants.{Refused}
 use Rattle.rules.specs.Network.{links_of, ases_of}
 use Rattle.rules.specs.Checks.{base_limits, check_words}
 use Rattle.rules.specs.Entry.{and_then, fault_of_destination}
 use Rattle.rules.proofs.Tests.{by_cond}
-use Rattle.linktext.specs.declared.Numeral.{Numeral}
-use Rattle.linktext.specs.declared.Numeral.TheVariants.{Value, NoForm, OverLarge}
+use Rattle.linktext.specs.declared.NumeralFault.{NumeralFault}
+use Rattle.linktext.specs.declared.NumeralFault.TheVariants.{NoForm, OverLarge}
 use Rattle.linktext.specs.Lines.{lf, numeral_of}
 use Rattle.linktext.specs.Fields.{place_of}
 use Rattle.linktext.specs.Texts.{refused, text_in}
@@ -41,16 +39,16 @@ use Rattle.report.specs.declared.Answer.TheVariants as answer
 use Rattle.report.specs.Report.{first_line, after_first, fault_of_number, value_of, destination_in, links_behind, fault_of_report}
 use Rattle.report.specs.Answers.{fault_of_link_words, fault_of_text, fault_of_lines, BehindFirst, Counted, Worked}
 
-pub refuses : {ls : List Link} {d : ℕ} {t r : List ℕ} {v : Verdict} {why : Refusal} → v ≡ Refused why → Worked ls d v t r (answer.Refused why) t r
+pub refuses : {ls : List Link} {d : ℕ} {t r : List ℕ} {v : Verdict} {why : Refusal} → v ≡ Err why → Worked ls d v t r (answer.Refused why) t r
 refuses e = rw e (record { replies = refl; tabled = refl; zeroed = refl })
 
 -- the check of the links ----------------------------------------------------------------------------------------------------
 
-module _ (ws : List ℕ) {c : Checked} (check : c ≡ check_words base_limits ws) where
-  pub bad_links : (d : ℕ) {why : Refusal} → c ≡ checked.Refused why → fault_of_link_words ws d ≡ Refused why
+module _ (ws : List ℕ) {c : Result ℕ Refusal} (check : c ≡ check_words base_limits ws) where
+  pub bad_links : (d : ℕ) {why : Refusal} → c ≡ Err why → fault_of_link_words ws d ≡ Err why
   bad_links d e = rw (← check, e)
 
-  pub good_links : {n : ℕ} → c ≡ checked.Accepted n → Counted ws n
+  pub good_links : {n : ℕ} → c ≡ Ok n → Counted ws n
   good_links e = record { accepted = sym check ∙ e }
 
 pub links_pass : {ws : List ℕ} {n : ℕ} (d : ℕ) → Counted ws n → fault_of_link_words ws d ≡ fault_of_destination d (ases_of (links_of ws))
@@ -58,7 +56,7 @@ links_pass d ok = rw ok.accepted
 
 -- the text's lines ----------------------------------------------------------------------------------------------------------
 
-pub no_text : (t : List ℕ) (d : ℕ) {why : Refusal} → text_in base_limits t ≡ refused why → fault_of_text t d ≡ Refused why
+pub no_text : (t : List ℕ) (d : ℕ) {why : Refusal} → text_in base_limits t ≡ refused why → fault_of_text t d ≡ Err why
 no_text t d e = rw (lost_fault base_limits t e)
 
 pub some_text : (t : List ℕ) (d : ℕ) {m : ℕ} {ws : List ℕ} → Got (text_in base_limits t) m ws → {u r : List ℕ} {a : Answer} {u' r' : List ℕ}
@@ -100,26 +98,26 @@ behind_is {t} {i} b = ap (λ (k : ℕ). take k (drop i t)) (sym (length-drop i t
 
 -- the destination's line ------------------------------------------------------------------------------------------------------
 
-no_value : (n : Numeral) (v : Verdict) → NoValue n → and_then (fault_of_number n) v ≡ Refused (Unreadable 0)
-no_value (Value d) v h = absurd (⊎_elim (λ e. omega arith) (λ e. omega arith) h)
-no_value NoForm v h = refl
-no_value OverLarge v h = refl
+no_value : (n : Result ℕ NumeralFault) (v : Verdict) → NoValue n → and_then (fault_of_number n) v ≡ Err (Unreadable 0)
+no_value (Ok d) v h = absurd (⊎_elim (λ e. omega arith) (λ e. omega arith) h)
+no_value (Err NoForm) v h = refl
+no_value (Err OverLarge) v h = refl
 
-module _ (t : List ℕ) {end : ℕ} (here : end ≡ place_of lf t) {x : Numeral} (reads : x ≡ numeral_of (take end t)) where
+module _ (t : List ℕ) {end : ℕ} (here : end ≡ place_of lf t) {x : Result ℕ NumeralFault} (reads : x ≡ numeral_of (take end t)) where
   line_number : x ≡ numeral_of (first_line t)
   line_number = reads ∙ rw here (ap numeral_of (first_line_lem t))
 
-  pub no_number : NoValue x → fault_of_lines t ≡ Refused (Unreadable 0)
+  pub no_number : NoValue x → fault_of_lines t ≡ Err (Unreadable 0)
   no_number h = rw (← line_number) (no_value x (fault_of_text (after_first t) (value_of x)) h)
 
-  module _ {d start : ℕ} (value : x ≡ Value d) (b : BehindFirst t start) {u r : List ℕ} {a : Answer} {u' r' : List ℕ} where
+  module _ {d start : ℕ} (value : x ≡ Ok d) (b : BehindFirst t start) {u r : List ℕ} {a : Answer} {u' r' : List ℕ} where
     pub a_number : Worked (links_of_text base_limits (behind t start)) d (fault_of_text (behind t start) d) u r a u' r'
         → Worked (links_behind base_limits t) (destination_in t) (fault_of_lines t) u r a u' r'
     a_number w = rw (← line_number, value) (rw (behind_is b) at w)
 
 -- the byte limit --------------------------------------------------------------------------------------------------------------
 
-pub too_long : (t : List ℕ) → 65536 < length t → fault_of_report base_limits t ≡ Refused OverLimit
+pub too_long : (t : List ℕ) → 65536 < length t → fault_of_report base_limits t ≡ Err OverLimit
 unfolding fault_of_report
 too_long t h = rw (lt-leb (length t) 65536 h)
 

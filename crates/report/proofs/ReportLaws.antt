@@ -8,13 +8,11 @@ use mathlib.Core.List.{List, [], ◌∷◌, ◌++◌, append_assoc}
 use native.Mathlib.Omega.{arith}
 use lib.Dec.{leb, eqb}
 use lib.ListN.{length, get_or, drop}
+use Rattle.rules.specs.Replies.{Verdict}
+use Rattle.std.specs.Prelude.{Err, Ok, Result}
 use Rattle.rules.specs.declared.Link.{Link}
 use Rattle.rules.specs.declared.Refusal.{Refusal}
 use Rattle.rules.specs.declared.Refusal.TheVariants.{OverLimit, NoDestination}
-use Rattle.rules.specs.declared.Checked.{Checked}
-use Rattle.rules.specs.declared.Checked.TheVariants as checked
-use Rattle.rules.specs.declared.Verdict.{Verdict}
-use Rattle.rules.specs.declared.Verdict.TheVariants.{Passes, Refused}
 use Rattle.rules.specs.Lists.{any_of}
 use Rattle.rules.specs.Refusals.{refusal_place}
 use Rattle.rules.specs.Network.{ases_of, arcs_of}
@@ -27,8 +25,8 @@ use Rattle.rules.proofs.AcceptedLinks.{check_links-Accepted}
 use Rattle.rules.proofs.RefusalPlaces.{Below, then_Below, unless-Below}
 use Rattle.rules.proofs.VerdictLaws.{both_pass}
 use Rattle.rules.proofs.Tests.{clash}
-use Rattle.linktext.specs.declared.Numeral.{Numeral}
-use Rattle.linktext.specs.declared.Numeral.TheVariants.{Value, NoForm, OverLarge}
+use Rattle.linktext.specs.declared.NumeralFault.{NumeralFault}
+use Rattle.linktext.specs.declared.NumeralFault.TheVariants.{NoForm, OverLarge}
 use Rattle.linktext.specs.Lines.{numeral_of}
 use Rattle.linktext.specs.Texts.{decimal, text_in}
 use Rattle.linktext.specs.TextNetworks.{fault_of_text, fault_of_network}
@@ -45,10 +43,10 @@ use Rattle.report.specs.Entries.{Reported}
 
 -- places --------------------------------------------------------------------------------------------------------------------
 
-number_Below : (n : Numeral) → Below 65537 (fault_of_number n)
-number_Below (Value d) = tt
-number_Below NoForm = omega arith
-number_Below OverLarge = omega arith
+number_Below : (n : Result ℕ NumeralFault) → Below 65537 (fault_of_number n)
+number_Below (Ok d) = tt
+number_Below (Err NoForm) = omega arith
+number_Below (Err OverLarge) = omega arith
 
 pub report_Below : (t : List ℕ) → Below 65537 (fault_of_report base_limits t)
 unfolding fault_of_report
@@ -60,11 +58,11 @@ report_Below t =
 
 -- how many ASes ---------------------------------------------------------------------------------------------------------------
 
-checked_few : (ls : List Link) (c : Checked) → check_links base_limits ls ≡ c → verdict_of c ≡ Passes → length (ases_of ls) ≤ 512
-checked_few ls (checked.Accepted n) e p = (let a = check_links-Accepted base_limits ls n e in omega (arith, a.count, a.few_ases))
-checked_few ls (checked.Refused why) e p = clash (cc)
+checked_few : (ls : List Link) (c : Result ℕ Refusal) → check_links base_limits ls ≡ c → verdict_of c ≡ Ok tt → length (ases_of ls) ≤ 512
+checked_few ls (Ok n) e p = (let a = check_links-Accepted base_limits ls n e in omega (arith, a.count, a.few_ases))
+checked_few ls (Err why) e p = clash (cc)
 
-few_ases : (t : List ℕ) → fault_of_report base_limits t ≡ Passes → length (ases_of (links_behind base_limits t)) ≤ 512
+few_ases : (t : List ℕ) → fault_of_report base_limits t ≡ Ok tt → length (ases_of (links_behind base_limits t)) ≤ 512
 unfolding fault_of_report fault_of_network
 few_ases t e =
     let (_, e₁) = both_pass (unless (leb (length t) 65536) OverLimit) _ e in
@@ -106,14 +104,14 @@ told_report ls d run rest =
 
 -- answers -------------------------------------------------------------------------------------------------------------------
 
-answer_refused : (ls : List Link) (d : ℕ) (v : Verdict) (why : Refusal) → answer_of ls d v ≡ answer.Refused why → v ≡ Refused why
-answer_refused ls d Passes why e = cc
-answer_refused ls d (Refused r) why e = cc
+answer_refused : (ls : List Link) (d : ℕ) (v : Verdict) (why : Refusal) → answer_of ls d v ≡ answer.Refused why → v ≡ Err why
+answer_refused ls d (Ok tt) why e = cc
+answer_refused ls d (Err r) why e = cc
 
 answer_tells : (ls : List Link) (d : ℕ) (v : Verdict) (x : Told) → answer_of ls d v ≡ answer.Tells x
-    → (v ≡ Passes) × (x ≡ told_of ls (ending_of ls d (run_from ls d)))
-answer_tells ls d Passes x e = (refl, cc)
-answer_tells ls d (Refused r) x e = (cc, clash (cc))
+    → (v ≡ Ok tt) × (x ≡ told_of ls (ending_of ls d (run_from ls d)))
+answer_tells ls d (Ok tt) x e = (refl, cc)
+answer_tells ls d (Err r) x e = (cc, clash (cc))
 
 module _ (t : List ℕ) {u room : List ℕ} {a : Answer} {u' room' : List ℕ}
     (w : Worked (links_behind base_limits t) (destination_in t) (fault_of_report base_limits t) u room a u' room') where
@@ -122,7 +120,7 @@ module _ (t : List ℕ) {u room : List ℕ} {a : Answer} {u' room' : List ℕ}
   reported e p = record { replies = rw (← e) p.count; written = rw (← e) p.bytes; fits = p.fits; zeroed = w.zeroed }
 
   module _ {why : Refusal} (refuses : a ≡ answer.Refused why) where
-    verdict_refused : fault_of_report base_limits t ≡ Refused why
+    verdict_refused : fault_of_report base_limits t ≡ Err why
     verdict_refused = answer_refused (links_behind base_limits t) (destination_in t) (fault_of_report base_limits t) why (sym w.replies ∙ refuses)
 
     pub refused_place : refusal_place why < 4294967296
@@ -133,7 +131,7 @@ module _ (t : List ℕ) {u room : List ℕ} {a : Answer} {u' room' : List ℕ}
     refused_report p = reported (rw verdict_refused) p
 
   module _ {x : Told} (tells : a ≡ answer.Tells x) where
-    passes : (fault_of_report base_limits t ≡ Passes)
+    passes : (fault_of_report base_limits t ≡ Ok tt)
         × (x ≡ told_of (links_behind base_limits t) (ending_of (links_behind base_limits t) (destination_in t) (run_from (links_behind base_limits t) (destination_in t))))
     passes = answer_tells (links_behind base_limits t) (destination_in t) (fault_of_report base_limits t) x (sym w.replies ∙ tells)
 

@@ -9,11 +9,11 @@ use lib.Dec.{leb}
 use lib.ListN.{length, drop, replicate, length-replicate}
 use lib.Seq.{drop-append_seam}
 use borrow.Author.Tests.{le-leb}
+use Rattle.std.specs.Prelude.{Err, Ok, Result}
+use Rattle.rules.specs.Replies.{Verdict}
 use Rattle.rules.specs.declared.Limits.{Limits}
 use Rattle.rules.specs.declared.Link.{Link}
 use Rattle.rules.specs.declared.Refusal.{Refusal}
-use Rattle.rules.specs.declared.Verdict.{Verdict}
-use Rattle.rules.specs.declared.Verdict.TheVariants.{Passes, Refused}
 use Rattle.rules.specs.Network.{links_of, ases_of, arcs_of}
 use Rattle.rules.specs.Checks.{base_limits, needed_room}
 use Rattle.rules.specs.Entry.{fault_of_destination, cleared, filled}
@@ -27,12 +27,10 @@ use Rattle.rules.proofs.MachineCounts.{run_counts}
 use Rattle.rules.proofs.Tests.{clash}
 use Rattle.rules.proofs.VerdictLaws.{then_passes}
 use Rattle.findings.specs.declared.Found.{Found}
-use Rattle.findings.specs.declared.Found.TheVariants as found
 use Rattle.findings.specs.Entries.{fault_of_findings, findings_reply, final_room}
 use Rattle.table.specs.Entries.{fault_of_table, Tabled}
 use Rattle.table.proofs.StableLaws.{filled_words}
 use Rattle.machine.specs.declared.Ran.{Ran}
-use Rattle.machine.specs.declared.Ran.TheVariants as ran
 use Rattle.machine.specs.Entries.{choice_from, fault_of_run, reply_run, run_reply, final_table, final_room as run_room}
 use Rattle.machine.specs.Answers.{Answered}
 use Rattle.machine.proofs.ReplyLaws.{reply_refused, Ended, reply_Ended}
@@ -58,11 +56,11 @@ module _ {ws : List ℕ} {n : ℕ} (ok : Counted ws n) where
 -- findings -----------------------------------------------------------------------------------------------------------------
 
 module _ {ws : List ℕ} {n : ℕ} (ok : Counted ws n) (r : List ℕ) (long : length r ≡ 16384) where
-  findings_pass : fault_of_findings base_limits ws (length r) ≡ Passes
+  findings_pass : fault_of_findings base_limits ws (length r) ≡ Ok tt
   unfolding fault_of_findings
   findings_pass = rw (ok.accepted, room_enough ok r long)
 
-  found_both : findings_reply base_limits ws (length r) ≡ found.Found (ringed (links_of ws)) (joined (links_of ws))
+  found_both : findings_reply base_limits ws (length r) ≡ Ok (record { ring = (ringed (links_of ws)); joined = (joined (links_of ws)) })
   unfolding findings_reply
   found_both = rw findings_pass
 
@@ -70,11 +68,11 @@ module _ {ws : List ℕ} {n : ℕ} (ok : Counted ws n) (r : List ℕ) (long : le
   unfolding final_room
   findings_room = rw findings_pass
 
-  module _ {f : Found} (reply : f ≡ findings_reply base_limits ws (length r)) where
-    pub none_found : {why : Refusal} {A : Type 0} → f ≡ found.Refused why → A
+  module _ {f : Result Found Refusal} (reply : f ≡ findings_reply base_limits ws (length r)) where
+    pub none_found : {why : Refusal} {A : Type 0} → f ≡ Err why → A
     none_found g = (let h = found_both in clash (cc))
 
-    pub tells_both : (end : Ending) {ring both : Bool} → f ≡ found.Found ring both
+    pub tells_both : (end : Ending) {ring both : Bool} → f ≡ Ok (record { ring = ring; joined = both })
         → answer.Tells (record { end = end; ring = ring; joined = both }) ≡ answer.Tells (told_of (links_of ws) end)
     tells_both end {ring} {both} g =
         let h = found_both in
@@ -85,8 +83,8 @@ module _ {ws : List ℕ} {n : ℕ} (ok : Counted ws n) (r : List ℕ) (long : le
 -- the stable table ----------------------------------------------------------------------------------------------------------
 
 cleared-length : (v : Verdict) (r : List ℕ) → length (cleared v r) ≡ length r
-cleared-length Passes r = length-replicate (length r) 0
-cleared-length (Refused why) r = refl
+cleared-length (Ok tt) r = length-replicate (length r) 0
+cleared-length (Err why) r = refl
 
 pub Tabled-room : {limits : Limits} {ws : List ℕ} {d : ℕ} {t r : List ℕ} {out : Verdict} {t' r' : List ℕ}
     → Tabled limits ws d t r out t' r' → length r' ≡ length r
@@ -94,7 +92,7 @@ Tabled-room {limits} {ws} {d} {t} {r} a = ap length a.zeroed ∙ cleared-length 
 
 module _ {ws : List ℕ} {n d : ℕ} (ok : Accepted ws n d) {t r : List ℕ} {out : Verdict} {t' r' : List ℕ}
     (a : Tabled base_limits ws d t r out t' r') (table : length t ≡ 2048) (room : length r ≡ 16384) where
-  table_pass : fault_of_table base_limits ws d (length t) (length r) ≡ Passes
+  table_pass : fault_of_table base_limits ws d (length t) (length r) ≡ Ok tt
   unfolding fault_of_table
   table_pass = rw (ok.counted.accepted, ok.destination, table_enough ok.counted t table, room_enough ok.counted r room)
 
@@ -106,15 +104,15 @@ module _ {ws : List ℕ} {n d : ℕ} (ok : Accepted ws n d) {t r : List ℕ} {ou
 -- the lines that are printed are the run's: where it is quiet they are stable, and the stable table is one
 printed_lines : (ls : List Link) (d : ℕ) (t : List ℕ) (quiet : Bool)
     → quiet ≡ is_quiet (lowest (arcs_of ls) (run_from ls d).state.waiting)
-    → settled ls d quiet (filled Passes (table_of (run_from ls d).state.lines (ases_of ls)) t)
-    ≡ filled Passes (table_of (run_from ls d).state.lines (ases_of ls)) t
+    → settled ls d quiet (filled (Ok tt) (table_of (run_from ls d).state.lines (ases_of ls)) t)
+    ≡ filled (Ok tt) (table_of (run_from ls d).state.lines (ases_of ls)) t
 printed_lines ls d t false q = refl
 printed_lines ls d t true q =
     let lines = table_of (run_from ls d).state.lines (ases_of ls) in
     rw (← run_quiet (arcs_of ls) (direction_unique ls) (arcs_positive ls) d [] 65536 (sym q))
     (ap (λ (l : List ℕ). lines ++ l) (drop-append_seam lines (drop (length lines) t)))
 
-module _ {ws : List ℕ} {n : ℕ} (ok : Counted ws n) {d : ℕ} {t r : List ℕ} {out : Ran} {t' r' : List ℕ}
+module _ {ws : List ℕ} {n : ℕ} (ok : Counted ws n) {d : ℕ} {t r : List ℕ} {out : Result Ran Refusal} {t' r' : List ℕ}
     (a : Answered base_limits ws d [] 65536 t r out t' r') (table : length t ≡ 2048) (room : length r ≡ 16384) where
   ls : List Link
   ls = links_of ws
@@ -125,19 +123,19 @@ module _ {ws : List ℕ} {n : ℕ} (ok : Counted ws n) {d : ℕ} {t r : List ℕ
   -- with no choices there is none that is no direction
   fault_is : fault_of_run base_limits ws d [] 65536 (length t) (length r) ≡ verdict
   unfolding fault_of_run choice_from ls verdict
-  fault_is = rw (ok.accepted, table_enough ok t table, room_enough ok r room) (then_passes verdict Passes (λ _. refl))
+  fault_is = rw (ok.accepted, table_enough ok t table, room_enough ok r room) (then_passes verdict (Ok tt) (λ _. refl))
 
   reply_is : out ≡ reply_run ws (run_from ls d) verdict
   unfolding run_reply ls
   reply_is = a.replies ∙ rw fault_is
 
-  pub run_refused : {why : Refusal} → out ≡ ran.Refused why → Worked (links_of ws) d (fault_of_destination d (ases_of (links_of ws))) t r (answer.Refused why) t' r'
+  pub run_refused : {why : Refusal} → out ≡ Err why → Worked (links_of ws) d (fault_of_destination d (ases_of (links_of ws))) t r (answer.Refused why) t' r'
   unfolding final_table run_room ls verdict
   run_refused {why} e =
       let v = reply_refused ws (run_from ls d) verdict why (sym reply_is ∙ e) in
       record { replies = rw v; tabled = a.tabled ∙ rw fault_is; zeroed = a.zeroed ∙ rw fault_is }
 
-  module _ {made idle : ℕ} {quiet : Bool} (e : out ≡ ran.Ran made idle quiet) where
+  module _ {made idle : ℕ} {quiet : Bool} (e : out ≡ Ok (record { made = made; idle = idle; quiet = quiet })) where
     ended : Ended ws (run_from ls d) verdict made idle quiet
     ended = reply_Ended ws (run_from ls d) verdict made idle quiet (sym reply_is ∙ e)
 
@@ -155,10 +153,10 @@ module _ {ws : List ℕ} {n : ℕ} (ok : Counted ws n) {d : ℕ} {t r : List ℕ
     unfolding final_table run_room ls verdict
     run_told {x} {t''} {r''} f g h =
         let v = ended.passes in
-        let lines : t' ≡ filled Passes (table_of (run_from ls d).state.lines (ases_of ls)) t = a.tabled ∙ rw (fault_is, v) in
-        let zeros : r' ≡ cleared Passes r = a.zeroed ∙ rw (fault_is, v) in
+        let lines : t' ≡ filled (Ok tt) (table_of (run_from ls d).state.lines (ases_of ls)) t = a.tabled ∙ rw (fault_is, v) in
+        let zeros : r' ≡ cleared (Ok tt) r = a.zeroed ∙ rw (fault_is, v) in
         let count = (accepted ok).count in
-        let long : length r' ≡ length r = ap length zeros ∙ cleared-length Passes r in
+        let long : length r' ≡ length r = ap length zeros ∙ cleared-length (Ok tt) r in
         rw v
         (record {
           replies = f ∙ rw (count, ended.waits_not, ended.deliveries);

@@ -9,11 +9,9 @@
 --   settled            the table's words once the lines are chosen: the stable table's where the run is quiet
 --   Counted ws n       an accepted list of link words with n ASes; Accepted ws n d   where d is one of them
 --   Worked ls d v t r a t' r'   answer, table and room where the verdict is v
-use Rattle.std.specs.Prelude.{ℕ, ◌≤◌, ◌≡◌, Bool, true, false, List, [], length, drop}
+use Rattle.rules.specs.Replies.{Verdict}
+use Rattle.std.specs.Prelude.{ℕ, ◌≤◌, ◌≡◌, Bool, true, false, List, [], length, drop, Err, Ok}
 use Rattle.rules.specs.declared.Link.{Link}
-use Rattle.rules.specs.declared.Checked.TheVariants as checked
-use Rattle.rules.specs.declared.Verdict.{Verdict}
-use Rattle.rules.specs.declared.Verdict.TheVariants.{Passes, Refused}
 use Rattle.rules.specs.Network.{links_of, ases_of, arcs_of}
 use Rattle.rules.specs.Checks.{base_limits, check_words}
 use Rattle.rules.specs.Entry.{and_then, fault_of_links, fault_of_destination, cleared, filled}
@@ -59,19 +57,19 @@ abbrev pub told_of : List Link → Ending → Told
 told_of ls e = record { end = e; ring = ringed ls; joined = joined ls }
 
 abbrev pub answer_of : List Link → ℕ → Verdict → Answer
-answer_of ls d Passes = answer.Tells (told_of ls (ending_of ls d (run_from ls d)))
-answer_of ls d (Refused r) = answer.Refused r
+answer_of ls d (Ok tt) = answer.Tells (told_of ls (ending_of ls d (run_from ls d)))
+answer_of ls d (Err r) = answer.Refused r
 
 abbrev pub settled : List Link → ℕ → Bool → List ℕ → List ℕ
-settled ls d true t = filled Passes (table_of (stable_of (arcs_of ls) d) (ases_of ls)) t
+settled ls d true t = filled (Ok tt) (table_of (stable_of (arcs_of ls) d) (ases_of ls)) t
 settled ls d false t = t
 
 pub record Counted (ws : List ℕ) (n : ℕ) : Type 0 where
-  pub accepted : check_words base_limits ws ≡ checked.Accepted n
+  pub accepted : check_words base_limits ws ≡ Ok n
 
 pub record Accepted (ws : List ℕ) (n d : ℕ) : Type 0 where
   pub counted : Counted ws n
-  pub destination : fault_of_destination d (ases_of (links_of ws)) ≡ Passes
+  pub destination : fault_of_destination d (ases_of (links_of ws)) ≡ Ok tt
 
 pub record Worked (ls : List Link) (d : ℕ) (v : Verdict) (t r : List ℕ) (a : Answer) (t' r' : List ℕ) : Type 0 where
   pub replies : a ≡ answer_of ls d v

@@ -5,21 +5,20 @@
 --   refusal_line r              `refused`, number, place
 --   report_lines                destination, two findings, lines, `quiet` or `stopped` with deliveries made
 --   report_of limits t          all that is printed
-use Rattle.std.specs.Prelude.{ℕ, Bool, true, false, cond, List, [], ◌∷◌, ◌++◌, leb, eqb, length}
+use Rattle.rules.specs.Replies.{Verdict}
+use Rattle.std.specs.Prelude.{ℕ, Bool, true, false, cond, List, [], ◌∷◌, ◌++◌, leb, eqb, length, Err, Ok, Result}
 use Rattle.rules.specs.declared.Limits.{Limits}
 use Rattle.rules.specs.declared.Link.{Link}
 use Rattle.rules.specs.declared.Refusal.{Refusal}
 use Rattle.rules.specs.declared.Refusal.TheVariants.{OverLimit, Unreadable}
-use Rattle.rules.specs.declared.Verdict.{Verdict}
-use Rattle.rules.specs.declared.Verdict.TheVariants.{Passes, Refused}
 use Rattle.rules.specs.Refusals.{refusal_number, refusal_place}
 use Rattle.rules.specs.Network.{ases_of, arcs_of}
 use Rattle.rules.specs.Entry.{and_then, unless, fault_of_destination}
 use Rattle.rules.specs.Findings.{ringed, joined}
 use Rattle.rules.specs.Stable.{Line, Routing}
 use Rattle.rules.specs.Machine.{Run, run_of, lowest, is_quiet}
-use Rattle.linktext.specs.declared.Numeral.{Numeral}
-use Rattle.linktext.specs.declared.Numeral.TheVariants.{Value, NoForm, OverLarge}
+use Rattle.linktext.specs.declared.NumeralFault.{NumeralFault}
+use Rattle.linktext.specs.declared.NumeralFault.TheVariants.{NoForm, OverLarge}
 use Rattle.linktext.specs.Lines.{lf, numeral_of}
 use Rattle.linktext.specs.Texts.{decimal}
 use Rattle.linktext.specs.TextNetworks.{links_of_text, fault_of_network}
@@ -34,15 +33,15 @@ after_first [] = []
 after_first (c ∷ t) = cond (eqb c lf) t (after_first t)
 
 -- 'a number as above, else refusal 9, place 0, ahead of the rest; so too for empty input'
-abbrev pub fault_of_number : Numeral → Verdict
-fault_of_number (Value d) = Passes
-fault_of_number NoForm = Refused (Unreadable 0)
-fault_of_number OverLarge = Refused (Unreadable 0)
+abbrev pub fault_of_number : Result ℕ NumeralFault → Verdict
+fault_of_number (Ok d) = Ok tt
+fault_of_number (Err NoForm) = Err (Unreadable 0)
+fault_of_number (Err OverLarge) = Err (Unreadable 0)
 
-abbrev pub value_of : Numeral → ℕ
-value_of (Value d) = d
-value_of NoForm = 0
-value_of OverLarge = 0
+abbrev pub value_of : Result ℕ NumeralFault → ℕ
+value_of (Ok d) = d
+value_of (Err NoForm) = 0
+value_of (Err OverLarge) = 0
 
 abbrev pub destination_in : List ℕ → ℕ
 destination_in t = value_of (numeral_of (first_line t))
@@ -109,9 +108,9 @@ report_lines ls d r =
 
 -- 'It runs the machine with no choices and 65,536 deliveries'
 abbrev pub printed : Limits → List ℕ → Verdict → List ℕ
-printed limits t Passes =
+printed limits t (Ok tt) =
     report_lines (links_behind limits t) (destination_in t) (run_of (arcs_of (links_behind limits t)) (destination_in t) [] 65536)
-printed limits t (Refused r) = refusal_line r
+printed limits t (Err r) = refusal_line r
 
 unfoldable pub report_of : Limits → List ℕ → List ℕ
 report_of limits t = printed limits t (fault_of_report limits t)

@@ -9,10 +9,9 @@ ghost use Rattle.report.specs.Answers.{fault_of_text, fault_of_lines, BehindFirs
 
 use crate::working::answer_links;
 use crate::{Answer, ROOM_WORDS, TABLE_WORDS};
-use linktext::Numeral;
 use linktext::line::{find, read_number};
 use linktext::reading::read_scratch;
-use rules::{Checked, Limits, Refusal};
+use rules::{Limits, Refusal};
 
 const LF: u8 = b'\n';
 
@@ -27,8 +26,8 @@ fn answer_text(
 {
     let mut words = [0u32; 4608];
     match read_scratch(text, Limits::BASE, &mut words) {
-        Checked::Refused(why) => Answer::Refused(why),
-        Checked::Accepted(m) => {
+        Err(why) => Answer::Refused(why),
+        Ok(m) => {
             let end = 3 * m;
             answer_links(&words[..end], destination, table, room)
         }
@@ -56,7 +55,7 @@ fn answer_lines(
 {
     let end = find(input, 0, LF);
     let number = read_number(&input[..end]);
-    let Numeral::Value(destination) = number else {
+    let Ok(destination) = number else {
         return Answer::Refused(Refusal::Unreadable(0));
     };
     let start = text_from(input, end);

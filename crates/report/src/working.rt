@@ -8,7 +8,6 @@ use crate::{Answer, Ending, ROOM_WORDS, TABLE_WORDS, Told};
 use findings::Found;
 use machine::{MOST_DELIVERIES, Ran};
 use network::check_links;
-use rules::Checked;
 
 // No choices: the lowest waiting direction is delivered from the start.
 const NO_CHOICES: [u32; 0] = [];
@@ -20,8 +19,8 @@ fn with_findings(words: &[u32], end: Ending, room: &mut [u32; ROOM_WORDS]) -> An
     ensures room_after { room.new ≡ replicate (length room.old) 0 }
 {
     match findings::find(words, room) {
-        Found::Refused(why) => Answer::Refused(why),
-        Found::Found(ring, joined) => Answer::Tells(Told { end, ring, joined }),
+        Err(why) => Answer::Refused(why),
+        Ok(Found { ring, joined }) => Answer::Tells(Told { end, ring, joined }),
     }
 }
 
@@ -73,8 +72,8 @@ fn run_machine(
         table,
         room,
     ) {
-        Ran::Refused(why) => Answer::Refused(why),
-        Ran::Ran(made, _, quiet) => {
+        Err(why) => Answer::Refused(why),
+        Ok(Ran { made, quiet, .. }) => {
             let deliveries = made as u32;
             let end = Ending {
                 destination,
@@ -97,7 +96,7 @@ pub fn answer_links(
     ensures { Worked (links_of words.now) destination (fault_of_link_words words.now destination) table.old room.old result table.new room.new }
 {
     match check_links(words) {
-        Checked::Refused(why) => Answer::Refused(why),
-        Checked::Accepted(n) => run_machine(words, n, destination, table, room),
+        Err(why) => Answer::Refused(why),
+        Ok(n) => run_machine(words, n, destination, table, room),
     }
 }

@@ -16,13 +16,11 @@ use native.Mathlib.Omega.{arith}
 use lib.Dec.{ltb, eqb}
 use lib.ListN.{length}
 use borrow.Author.Tests.{ltb-false, eqb-true, eqb-false, eq-eqb}
+use Rattle.std.specs.Prelude.{Err, Ok, Result}
 use Rattle.rules.specs.declared.Link.{Link}
 use Rattle.rules.specs.declared.Limits.{Limits}
 use Rattle.rules.specs.declared.Refusal.{Refusal}
 use Rattle.rules.specs.declared.Refusal.TheVariants.{OverLimit, ZeroAs, NoRelation, EqualEnds, PairAgain, TooManyAses}
-use Rattle.rules.specs.declared.Checked.{Checked}
-use Rattle.rules.specs.declared.Checked.TheVariants.{Accepted, Refused}
-use Rattle.rules.specs.declared.Verdict.TheVariants.{Passes}
 use Rattle.rules.specs.Lists.{In, any_of}
 use Rattle.rules.specs.Offers.{Arc}
 use Rattle.rules.specs.Network.{links_of, with_ends, ases_from, ases_of, a_to_b, b_to_a, arcs_from, arcs_of}
@@ -52,11 +50,11 @@ pub record SoundLinks (ls : List Link) : Type 0 where
   pub once : OncePerPair ls
 
 -- a refusal is no acceptance
-not_Accepted : {r : Refusal} {n : ℕ} → Refused r ≡ Accepted n → ⊥
+not_Accepted : {r : Refusal} {n : ℕ} → Err r ≡ Ok n → ⊥
 not_Accepted {r} {n} e = clash (cc)
 
 -- a check that was passed
-passed : (t : Bool) (r : Refusal) (x : Checked) (n : ℕ) → cond t (Refused r) x ≡ Accepted n → (t ≡ false) × (x ≡ Accepted n)
+passed : (t : Bool) (r : Refusal) (x : Result ℕ Refusal) (n : ℕ) → cond t (Err r) x ≡ Ok n → (t ≡ false) × (x ≡ Ok n)
 passed true r x n e = absurd (not_Accepted e)
 passed false r x n e = (refl, e)
 
@@ -85,7 +83,7 @@ pub record AcceptedFrom (limits : Limits) (seen : List Link) (known : List ℕ) 
   pub fits : n ≤ limits.ases
 
 pub check_from-Accepted : (limits : Limits) (seen : List Link) (known : List ℕ) (i : ℕ) (ls : List Link) (n : ℕ)
-    → length known ≤ limits.ases → check_from limits seen known i ls ≡ Accepted n → AcceptedFrom limits seen known ls n
+    → length known ≤ limits.ases → check_from limits seen known i ls ≡ Ok n → AcceptedFrom limits seen known ls n
 unfolding check_from ases_from
 check_from-Accepted limits seen known i [] n h e =
     let c : n ≡ length known = cc in
@@ -113,7 +111,7 @@ pub record AcceptedLinks (limits : Limits) (ls : List Link) (n : ℕ) : Type 0 w
   pub few_ases : n ≤ limits.ases
   pub few_links : length ls ≤ limits.links
 
-pub check_links-Accepted : (limits : Limits) (ls : List Link) (n : ℕ) → check_links limits ls ≡ Accepted n → AcceptedLinks limits ls n
+pub check_links-Accepted : (limits : Limits) (ls : List Link) (n : ℕ) → check_links limits ls ≡ Ok n → AcceptedLinks limits ls n
 unfolding check_links
 check_links-Accepted limits ls n e =
     let (few, e₁) = passed (ltb limits.links (length ls)) OverLimit _ n e in
@@ -125,21 +123,21 @@ check_links-Accepted limits ls n e =
       few_links = ltb-false limits.links (length ls) few;
     }
 
-pub check_words-Accepted : (limits : Limits) (ws : List ℕ) (n : ℕ) → check_words limits ws ≡ Accepted n
+pub check_words-Accepted : (limits : Limits) (ws : List ℕ) (n : ℕ) → check_words limits ws ≡ Ok n
     → (length ws % 3 ≡ 0) × AcceptedLinks limits (links_of ws) n
 unfolding check_words
 check_words-Accepted limits ws n =
-    by_cond (λ (x : Checked). x ≡ Accepted n → (length ws % 3 ≡ 0) × AcceptedLinks limits (links_of ws) n) (eqb (length ws % 3) 0) _ _
+    by_cond (λ (x : Result ℕ Refusal). x ≡ Ok n → (length ws % 3 ≡ 0) × AcceptedLinks limits (links_of ws) n) (eqb (length ws % 3) 0) _ _
     (λ t e. (eqb-true (length ws % 3) 0 t, check_links-Accepted limits (links_of ws) n e)) (λ t e. absurd (not_Accepted e))
 
 -- the same, of link words in which nothing is refused
-pub links_accepted : (limits : Limits) (ws : List ℕ) → fault_of_links limits ws ≡ Passes → (n : ℕ) × (length ws % 3 ≡ 0) × AcceptedLinks limits (links_of ws) n
+pub links_accepted : (limits : Limits) (ws : List ℕ) → fault_of_links limits ws ≡ Ok tt → (n : ℕ) × (length ws % 3 ≡ 0) × AcceptedLinks limits (links_of ws) n
 links_accepted limits ws e =
     let (n, a) = accepted (check_words limits ws) e in
     let (whole, ok) = check_words-Accepted limits ws n a in
     (n, whole, ok)
 
-pub links_few : (limits : Limits) (ws : List ℕ) → fault_of_links limits ws ≡ Passes → length (ases_of (links_of ws)) ≤ limits.ases
+pub links_few : (limits : Limits) (ws : List ℕ) → fault_of_links limits ws ≡ Ok tt → length (ases_of (links_of ws)) ≤ limits.ases
 links_few limits ws e = (let (n, whole, a) = links_accepted limits ws e in omega (arith, a.count, a.few_ases))
 
 -- arcs of one hearer are told apart by their neighbours

@@ -6,9 +6,8 @@ use mathlib.Core.Bool.{true}
 use mathlib.Core.List.{List}
 use native.Mathlib.Omega.{arith}
 use lib.ListN.{length}
+use Rattle.std.specs.Prelude.{Ok}
 use Rattle.rules.specs.declared.Limits.{Limits}
-use Rattle.rules.specs.declared.Checked.TheVariants.{Accepted}
-use Rattle.rules.specs.declared.Verdict.TheVariants.{Passes}
 use Rattle.rules.specs.Lists.{In, Distinct}
 use Rattle.rules.specs.Offers.{Arc}
 use Rattle.rules.specs.Network.{links_of, ases_of, arcs_of}
@@ -50,14 +49,14 @@ pub record AcceptedNetwork (limits : Limits) (ws : List ℕ) (n : ℕ) : Type 0 
   pub short : (d : ℕ) (R : Routing) → Stable (arcs_of (links_of ws)) d R → (u : ℕ) → len R u ≤ n - 1
   -- for each AS as destination exactly one sheet passes
   pub one_passes : (d : ℕ) → In d (ases_of (links_of ws))
-      → (es : List Entry) × (judge (links_of ws) d (limits.ases - 1) es ≡ Passes)
-      × ((fs : List Entry) → judge (links_of ws) d (limits.ases - 1) fs ≡ Passes → fs ≡ es)
+      → (es : List Entry) × (judge (links_of ws) d (limits.ases - 1) es ≡ Ok tt)
+      × ((fs : List Entry) → judge (links_of ws) d (limits.ases - 1) fs ≡ Ok tt → fs ≡ es)
   -- whenever the machine, started fresh, has nothing waiting, its lines are the stable ones
   pub quiet : (d : ℕ) (choices : List ℕ) (further : ℕ)
       → is_quiet (lowest (arcs_of (links_of ws)) (run_of (arcs_of (links_of ws)) d choices further).state.waiting) ≡ true
       → (run_of (arcs_of (links_of ws)) d choices further).state.lines ≡ stable_of (arcs_of (links_of ws)) d
 
-pub Accepted-network : (limits : Limits) (ws : List ℕ) (n : ℕ) → check_words limits ws ≡ Accepted n → AcceptedNetwork limits ws n
+pub Accepted-network : (limits : Limits) (ws : List ℕ) (n : ℕ) → check_words limits ws ≡ Ok n → AcceptedNetwork limits ws n
 Accepted-network limits ws n accepted =
     let ls = links_of ws in
     let net = arcs_of (links_of ws) in

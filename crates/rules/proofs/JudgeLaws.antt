@@ -9,8 +9,8 @@ use native.Mathlib.Omega.{arith}
 use native.Mathlib.Decide.{ℕ_discrete}
 use lib.Dec.{ltb, leb, eqb}
 use borrow.Author.Tests.{leb-true, ltb-false, eqb-true, eq-eqb, ne_eqb, le-leb, le-ltb, not-true}
+use Rattle.std.specs.Prelude.{Ok}
 use Rattle.rules.specs.declared.Refusal.TheVariants.{CannotStand, NotBest}
-use Rattle.rules.specs.declared.Verdict.TheVariants.{Passes}
 use Rattle.rules.specs.Pairs.{same_as}
 use Rattle.rules.specs.Lists.{In}
 use Rattle.rules.specs.Offers.{Arc}
@@ -70,7 +70,7 @@ stands_yes bound u e s = go (ℕ_discrete e.line.pair.typ 4)
     go (no n) = cc (eq-eqb _ _ s.number, le-leb _ _ s.low, le-leb _ _ s.high, ne_eqb _ _ n, le-leb _ _ s.short)
 
 -- the ASes are named in order
-pub standing_numbers : (bound i : ℕ) (us : List ℕ) (es : List Entry) → standing_from bound i us es ≡ Passes → numbers es ≡ us
+pub standing_numbers : (bound i : ℕ) (us : List ℕ) (es : List Entry) → standing_from bound i us es ≡ Ok tt → numbers es ≡ us
 unfolding standing_from
 standing_numbers bound i [] [] e = refl
 standing_numbers bound i [] (x ∷ es) e = cc
@@ -83,7 +83,7 @@ standing_numbers bound i (u ∷ us) (x ∷ es) e =
 
 -- lines that all stand pass
 pub Standing-passes : (bound i : ℕ) (R : Routing) (us : List ℕ) → ((u : ℕ) → In u us → Standing bound u (record { number = u; line = R u }))
-    → standing_from bound i us (entries_for R us) ≡ Passes
+    → standing_from bound i us (entries_for R us) ≡ Ok tt
 unfolding standing_from entries_for
 Standing-passes bound i R [] all = refl
 Standing-passes bound i R (u ∷ us) all =
@@ -108,7 +108,7 @@ is_same_line_refl x y e =
     )
 
 module _ (net : List Arc) (d : ℕ) (R : Routing) where
-  pub best_lines : (i : ℕ) (es : List Entry) → best_from net d R i es ≡ Passes → (e : Entry) → In e es → e.line ≡ due net d R e.number
+  pub best_lines : (i : ℕ) (es : List Entry) → best_from net d R i es ≡ Ok tt → (e : Entry) → In e es → e.line ≡ due net d R e.number
   unfolding best_from
   best_lines i [] p e x'' = elim x'' [ ]
   best_lines i (x ∷ es) p e (inl q) =
@@ -118,7 +118,7 @@ module _ (net : List Arc) (d : ℕ) (R : Routing) where
       let t = test_passes (is_same_line x.line (due net d R x.number)) (best_from net d R (suc i) es) (NotBest i) p in
       best_lines (suc i) es t.1 e m
 
-  pub best_passes : (i : ℕ) (es : List Entry) → ((e : Entry) → In e es → e.line ≡ due net d R e.number) → best_from net d R i es ≡ Passes
+  pub best_passes : (i : ℕ) (es : List Entry) → ((e : Entry) → In e es → e.line ≡ due net d R e.number) → best_from net d R i es ≡ Ok tt
   unfolding best_from
   best_passes i [] all = refl
   best_passes i (x ∷ es) all =

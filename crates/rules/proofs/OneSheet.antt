@@ -7,8 +7,8 @@ use mathlib.Core.List.{List}
 use native.Mathlib.Omega.{arith}
 use native.Mathlib.Decide.{ℕ_discrete}
 use lib.ListN.{length}
+use Rattle.std.specs.Prelude.{Ok}
 use Rattle.rules.specs.declared.Link.{Link}
-use Rattle.rules.specs.declared.Verdict.TheVariants.{Passes}
 use Rattle.rules.specs.Lists.{In}
 use Rattle.rules.specs.Offers.{Arc, none}
 use Rattle.rules.specs.Network.{ases_of, arcs_of}
@@ -42,8 +42,8 @@ module _ (ls : List Link) (d : ℕ) (has : In d (ases_of ls)) where
       due_off net d R u (λ e. out (subst (λ (x : ℕ). In x us) (sym e) has))
       ∙ ap line_of (best_out (told R) u net (λ a m e. out (subst (λ (x : ℕ). In x us) e (arcs_ends ls a m).0)))
 
-  module _ (bound : ℕ) (es : List Entry) (passes : judge ls d bound es ≡ Passes) where
-    passing : (standing bound us es ≡ Passes) × (best_offers net d es ≡ Passes)
+  module _ (bound : ℕ) (es : List Entry) (passes : judge ls d bound es ≡ Ok tt) where
+    passing : (standing bound us es ≡ Ok tt) × (best_offers net d es ≡ Ok tt)
     unfolding judge
     passing = both_pass (standing bound us es) (best_offers net d es) passes
 
@@ -75,7 +75,7 @@ module _ (ls : List Link) (d : ℕ) (has : In d (ases_of ls)) where
         followed (λ a. In a net) (arcs_positive ls) d (routing_of es) (stable_Settled net d (routing_of es) passing_Stable)
 
   -- the stable routing's lines pass, where the bound lets lengths below the number of ASes stand
-  pub stable_passes : (bound : ℕ) → length us - 1 ≤ bound → judge ls d bound (entries_for (stable_of net d) us) ≡ Passes
+  pub stable_passes : (bound : ℕ) → length us - 1 ≤ bound → judge ls d bound (entries_for (stable_of net d) us) ≡ Ok tt
   unfolding judge
   stable_passes bound room = rw (Standing-passes bound 0 S us stand) (best_passes net d (routing_of (entries_for S us)) 0 (entries_for S us) best-line)
     where
@@ -114,5 +114,5 @@ module _ (ls : List Link) (d : ℕ) (has : In d (ases_of ls)) where
 
   -- exactly one list of lines passes
   pub one_sheet : (bound : ℕ) → length us - 1 ≤ bound
-      → (es : List Entry) × (judge ls d bound es ≡ Passes) × ((fs : List Entry) → judge ls d bound fs ≡ Passes → fs ≡ es)
+      → (es : List Entry) × (judge ls d bound es ≡ Ok tt) × ((fs : List Entry) → judge ls d bound fs ≡ Ok tt → fs ≡ es)
   one_sheet bound room = (entries_for (stable_of net d) us, stable_passes bound room, λ fs p. passing_only bound fs p)

@@ -9,12 +9,11 @@ use native.Mathlib.Omega.{arith}
 use lib.Dec.{ltb, eqb}
 use lib.ListN.{length}
 use borrow.Author.Tests.{ltb-false}
+use Rattle.rules.specs.Replies.{Verdict}
+use Rattle.std.specs.Prelude.{Err, Ok, Result}
 use Rattle.rules.specs.declared.Link.{Link}
 use Rattle.rules.specs.declared.Limits.{Limits}
 use Rattle.rules.specs.declared.Refusal.{Refusal}
-use Rattle.rules.specs.declared.Checked.{Checked}
-use Rattle.rules.specs.declared.Verdict.{Verdict}
-use Rattle.rules.specs.declared.Verdict.TheVariants.{Passes, Refused}
 use Rattle.rules.specs.Lists.{any_of}
 use Rattle.rules.specs.Refusals.{refusal_place}
 use Rattle.rules.specs.Network.{with_ends}
@@ -23,23 +22,23 @@ use Rattle.rules.specs.Entry.{and_then, unless, verdict_of}
 use Rattle.rules.proofs.Tests.{by_cond}
 
 abbrev pub Below : ℕ → Verdict → Type 0
-Below b Passes = Unit {0}
-Below b (Refused why) = refusal_place why < b
+Below b (Ok tt) = Unit {0}
+Below b (Err why) = refusal_place why < b
 
 -- the second of two need be below only where the first passes
-pub then_Below : (b : ℕ) (v w : Verdict) → Below b v → (v ≡ Passes → Below b w) → Below b (and_then v w)
-then_Below b Passes w f g = g refl
-then_Below b (Refused why) w f g = f
+pub then_Below : (b : ℕ) (v w : Verdict) → Below b v → (v ≡ Ok tt → Below b w) → Below b (and_then v w)
+then_Below b (Ok tt) w f g = g refl
+then_Below b (Err why) w f g = f
 
 pub unless-Below : (b : ℕ) (test : Bool) (why : Refusal) → refusal_place why < b → Below b (unless test why)
-unless-Below b test why h = by_cond (Below b) test Passes (Refused why) (λ e. tt) (λ e. h)
+unless-Below b test why h = by_cond (Below b) test (Ok tt) (Err why) (λ e. tt) (λ e. h)
 
 from_Below : (b : ℕ) (limits : Limits) (seen : List Link) (known : List ℕ) (i : ℕ) (ls : List Link) → i + length ls ≤ b
     → Below b (verdict_of (check_from limits seen known i ls))
 unfolding check_from
 from_Below b limits seen known i [] h = tt
 from_Below b limits seen known i (l ∷ ls) h =
-    let P : Checked → Type 0 = (λ c. Below b (verdict_of c)) in
+    let P : Result ℕ Refusal → Type 0 = (λ c. Below b (verdict_of c)) in
     by_cond P (eqb l.a 0 || eqb l.b 0) _ _ (λ e. omega arith)
     (λ e. by_cond P (ltb 1 l.relation) _ _ (λ e. omega arith)
     (λ e. by_cond P (eqb l.a l.b) _ _ (λ e. omega arith)
@@ -50,5 +49,5 @@ from_Below b limits seen known i (l ∷ ls) h =
 pub check_Below : (b : ℕ) (limits : Limits) (ls : List Link) → 0 < b → limits.links ≤ b → Below b (verdict_of (check_links limits ls))
 unfolding check_links
 check_Below b limits ls h k =
-    by_cond (λ (c : Checked). Below b (verdict_of c)) (ltb limits.links (length ls)) _ _ (λ e. h)
+    by_cond (λ (c : Result ℕ Refusal). Below b (verdict_of c)) (ltb limits.links (length ls)) _ _ (λ e. h)
     (λ e. from_Below b limits [] [] 0 ls (omega (arith, ltb-false limits.links (length ls) e)))

@@ -6,27 +6,24 @@
 --   fault_of_destination d us  7: d is none of the ASes us
 --   fault_of_output need have, fault_of_room need have  8, place 0 and place 1
 --   cleared v room     the lent room afterwards; filled v out old   lent output afterwards
-use Rattle.std.specs.Prelude.{ℕ, Bool, cond, List, ◌++◌, leb, eqb, length, drop, replicate}
+use Rattle.rules.specs.Replies.{Verdict}
+use Rattle.std.specs.Prelude.{ℕ, Bool, cond, List, ◌++◌, leb, eqb, length, drop, replicate, Err, Ok, Result}
 use Rattle.rules.specs.declared.Limits.{Limits}
 use Rattle.rules.specs.declared.Refusal.{Refusal}
 use Rattle.rules.specs.declared.Refusal.TheVariants.{NoDestination, OutputShort, RoomShort}
-use Rattle.rules.specs.declared.Checked.{Checked}
-use Rattle.rules.specs.declared.Checked.TheVariants as checked
-use Rattle.rules.specs.declared.Verdict.{Verdict}
-use Rattle.rules.specs.declared.Verdict.TheVariants.{Passes, Refused}
 use Rattle.rules.specs.Lists.{any_of}
 use Rattle.rules.specs.Checks.{check_words}
 
 abbrev pub and_then : Verdict → Verdict → Verdict
-and_then Passes w = w
-and_then (Refused r) w = Refused r
+and_then (Ok tt) w = w
+and_then (Err r) w = Err r
 
 abbrev pub unless : Bool → Refusal → Verdict
-unless test r = cond test Passes (Refused r)
+unless test r = cond test (Ok tt) (Err r)
 
-abbrev pub verdict_of : Checked → Verdict
-verdict_of (checked.Accepted n) = Passes
-verdict_of (checked.Refused r) = Refused r
+abbrev pub verdict_of : Result ℕ Refusal → Verdict
+verdict_of (Ok n) = Ok tt
+verdict_of (Err r) = Err r
 
 abbrev pub fault_of_links : Limits → List ℕ → Verdict
 fault_of_links limits ws = verdict_of (check_words limits ws)
@@ -42,10 +39,10 @@ fault_of_room need have = unless (leb need have) RoomShort
 
 -- 'After an accepted call all lent room is zero'; a refusal 'leaves all lent memory unchanged'
 abbrev pub cleared : Verdict → List ℕ → List ℕ
-cleared Passes room = replicate (length room) 0
-cleared (Refused r) room = room
+cleared (Ok tt) room = replicate (length room) 0
+cleared (Err r) room = room
 
 -- 'output bytes or words beyond the result stay as they were'
 abbrev pub filled : Verdict → List ℕ → List ℕ → List ℕ
-filled Passes out old = out ++ drop (length out) old
-filled (Refused r) out old = old
+filled (Ok tt) out old = out ++ drop (length out) old
+filled (Err r) out old = old

@@ -7,11 +7,10 @@
 --   standing bound us es   11: the lowest line that cannot stand among lines due for the ASes us
 --   best_offers net d es   12: the lowest line that is not the one due, the others as printed
 --   judge ls d bound es    what the judge says of the lines es for the links ls and the destination d, which is among their ASes
-use Rattle.std.specs.Prelude.{ℕ, suc, Bool, cond, not, ◌&&◌, List, [], ◌∷◌, ltb, leb, eqb}
+use Rattle.rules.specs.Replies.{Verdict}
+use Rattle.std.specs.Prelude.{ℕ, suc, Bool, cond, not, ◌&&◌, List, [], ◌∷◌, ltb, leb, eqb, Err, Ok}
 use Rattle.rules.specs.declared.Link.{Link}
 use Rattle.rules.specs.declared.Refusal.TheVariants.{CannotStand, NotBest}
-use Rattle.rules.specs.declared.Verdict.{Verdict}
-use Rattle.rules.specs.declared.Verdict.TheVariants.{Passes, Refused}
 use Rattle.rules.specs.Pairs.{same_as}
 use Rattle.rules.specs.Offers.{Arc}
 use Rattle.rules.specs.Network.{ases_of, arcs_of}
@@ -54,11 +53,11 @@ stands bound u e =
 
 -- 'Missing or surplus lines: place is the shorter count. Of several such faults the lowest line counts'
 unfoldable pub standing_from : ℕ → ℕ → List ℕ → List Entry → Verdict
-standing_from bound i [] [] = Passes
-standing_from bound i [] (e ∷ es) = Refused (CannotStand i)
-standing_from bound i (u ∷ us) [] = Refused (CannotStand i)
+standing_from bound i [] [] = Ok tt
+standing_from bound i [] (e ∷ es) = Err (CannotStand i)
+standing_from bound i (u ∷ us) [] = Err (CannotStand i)
 standing_from bound i (u ∷ us) (e ∷ es) =
-    cond (stands bound u e) (standing_from bound (suc i) us es) (Refused (CannotStand i))
+    cond (stands bound u e) (standing_from bound (suc i) us es) (Err (CannotStand i))
 
 abbrev pub standing : ℕ → List ℕ → List Entry → Verdict
 standing bound us es = standing_from bound 0 us es
@@ -68,9 +67,9 @@ is_same_line x y = same_as x.pair y.pair && eqb x.next y.next
 
 -- 'a line is not the best offer, or the destination's not origin'. The judge 'works from the lines and the links': R is what they print
 unfoldable pub best_from : List Arc → ℕ → Routing → ℕ → List Entry → Verdict
-best_from net d R i [] = Passes
+best_from net d R i [] = Ok tt
 best_from net d R i (e ∷ es) =
-    cond (is_same_line e.line (due net d R e.number)) (best_from net d R (suc i) es) (Refused (NotBest i))
+    cond (is_same_line e.line (due net d R e.number)) (best_from net d R (suc i) es) (Err (NotBest i))
 
 abbrev pub best_offers : List Arc → ℕ → List Entry → Verdict
 best_offers net d es = best_from net d (routing_of es) 0 es

@@ -13,3 +13,4 @@ pub mod Judge
 pub mod Findings
 pub mod Machine
 pub mod Worked
+pub mod Replies

@@ -2,10 +2,9 @@
 -- document says. Lines are words: number, type, length, next hop.
 --
 --   examples           the rows; agrees row   both sides are the same numbers
-use Rattle.std.specs.Prelude.{ℕ, Bool, true, false, ◌&&◌, List, [], ◌∷◌, ◌++◌, eqb}
+use Rattle.rules.specs.Replies.{Verdict}
+use Rattle.std.specs.Prelude.{ℕ, Bool, true, false, ◌&&◌, List, [], ◌∷◌, ◌++◌, eqb, Err, Ok}
 use Rattle.rules.specs.declared.Link.{Link}
-use Rattle.rules.specs.declared.Verdict.{Verdict}
-use Rattle.rules.specs.declared.Verdict.TheVariants.{Passes, Refused}
 use Rattle.rules.specs.Pairs.{extended_type}
 use Rattle.rules.specs.Refusals.{refusal_number, refusal_place}
 use Rattle.rules.specs.Network.{links_of, ases_of, arcs_of}
@@ -59,8 +58,8 @@ run_to ls d choices n us =
 
 -- number and place of a refusal, or 0
 abbrev pub said : Verdict → List ℕ
-said Passes = 0 ∷ []
-said (Refused r) = refusal_number r ∷ refusal_place r ∷ []
+said (Ok tt) = 0 ∷ []
+said (Err r) = refusal_number r ∷ refusal_place r ∷ []
 
 unfoldable pub judged_to : List Link → ℕ → List ℕ → List ℕ
 judged_to ls d words = said (judge ls d 511 (entries_of words))

@@ -5,32 +5,26 @@ ghost use Rattle.std.specs.Prelude.{◌≡◌, ◌+◌, ◌<◌};
 ghost use Rattle.rules.specs.Pairs.{extended_type, extension, beats_of, same_as, kind_from_a, kind_from_b};
 ghost use Rattle.rules.specs.Refusals.{refusal_number, refusal_place};
 
+use std::error::Error;
+use std::fmt;
+
 // The twelve-cell extension table: link type 1 to 3 down, neighbour's type 1 to 4 across.
+// Kept: kinds and types are numbers, since `extend_type` and the methods of `TypeLength` answer for numbers that are none (4, unreachable),
+// and table words and links hold such numbers until they are refused.
 pub const EXTENSION: [[u32; 4]; 3] = [[1, 4, 4, 4], [2, 4, 4, 4], [3, 3, 3, 4]];
 
 // The type that a neighbour's type becomes over a link of this kind; 4 for what is no kind or no type.
 pub fn extend_type(kind: u32, typ: u32) -> u32
     ensures { result ≡ extended_type kind typ }
 {
-    if kind < 1 {
-        return 4;
+    match (kind, typ) {
+        (1..=3, 1..=4) => EXTENSION[(kind - 1) as usize][(typ - 1) as usize],
+        _ => 4,
     }
-    if 3 < kind {
-        return 4;
-    }
-    if typ < 1 {
-        return 4;
-    }
-    if 4 < typ {
-        return 4;
-    }
-    let down = (kind - 1) as usize;
-    let across = (typ - 1) as usize;
-    EXTENSION[down][across]
 }
 
-// A type, 1 customer, 2 peer, 3 provider, 4 unreachable, and a length.
-#[derive(Clone, Copy)]
+// A type, 1 customer, 2 peer, 3 provider, 4 unreachable, and a length. The order is by type, then by length.
+#[derive(Clone, Copy, Debug, PartialEq, Eq, PartialOrd, Ord)]
 pub struct TypeLength {
     pub typ: u32,
     pub length: u32,
@@ -60,23 +54,20 @@ impl TypeLength {
     pub fn beats(self, other: TypeLength) -> bool
         ensures { result ≡ beats_of self other }
     {
-        if self.typ == other.typ {
-            return self.length < other.length;
-        }
-        self.typ < other.typ
+        self < other
     }
 
     // The same type and length.
     pub fn same(self, other: TypeLength) -> bool
         ensures { result ≡ same_as self other }
     {
-        (self.typ == other.typ) & (self.length == other.length)
+        self == other
     }
 }
 
 // A link record: relation 0 for peers, 1 where a is provider of b.
 #[repr(C)]
-#[derive(Clone, Copy)]
+#[derive(Clone, Copy, Debug, PartialEq, Eq)]
 pub struct Link {
     pub a: u32,
     pub b: u32,
@@ -100,7 +91,7 @@ impl Link {
 }
 
 // How much is taken: links in a list, ASes in a network, bytes of a text and of a sheet.
-#[derive(Clone, Copy)]
+#[derive(Clone, Copy, Debug, PartialEq, Eq)]
 pub struct Limits {
     pub links: usize,
     pub ases: usize,
@@ -109,7 +100,7 @@ pub struct Limits {
 }
 
 impl Limits {
-    // The limits of document 01.
+    // What every entry takes: 1,536 links, 512 ASes, and 65,536 bytes of a text and of a sheet.
     pub const BASE: Limits = Limits {
         links: 1536,
         ases: 512,
@@ -118,22 +109,8 @@ impl Limits {
     };
 }
 
-// What the check of a list of links says: the number of its ASes, or the first fault.
-#[derive(Clone, Copy)]
-pub enum Checked {
-    Accepted(usize),
-    Refused(Refusal),
-}
-
-// What a judge says.
-#[derive(Clone, Copy)]
-pub enum Verdict {
-    Passes,
-    Refused(Refusal),
-}
-
 // Why an input is refused, with the place where it shows.
-#[derive(Clone, Copy)]
+#[derive(Clone, Copy, Debug, PartialEq, Eq)]
 pub enum Refusal {
     OverLimit,
     ZeroAs(usize),
@@ -164,8 +141,7 @@ impl Refusal {
             Refusal::PairAgain(_) => 5,
             Refusal::TooManyAses(_) => 6,
             Refusal::NoDestination => 7,
-            Refusal::OutputShort => 8,
-            Refusal::RoomShort => 8,
+            Refusal::OutputShort | Refusal::RoomShort => 8,
             Refusal::Unreadable(_) => 9,
             Refusal::BrokenForm(_) => 10,
             Refusal::CannotStand(_) => 11,
@@ -179,20 +155,44 @@ impl Refusal {
         ensures { result ≡ refusal_place self }
     {
         match self {
-            Refusal::OverLimit => 0,
-            Refusal::ZeroAs(link) => link,
-            Refusal::NoRelation(link) => link,
-            Refusal::EqualEnds(link) => link,
-            Refusal::PairAgain(link) => link,
-            Refusal::TooManyAses(link) => link,
-            Refusal::NoDestination => 0,
-            Refusal::OutputShort => 0,
+            Refusal::OverLimit | Refusal::NoDestination | Refusal::OutputShort => 0,
             Refusal::RoomShort => 1,
+            Refusal::ZeroAs(link)
+            | Refusal::NoRelation(link)
+            | Refusal::EqualEnds(link)
+            | Refusal::PairAgain(link)
+            | Refusal::TooManyAses(link) => link,
             Refusal::Unreadable(line) => line,
             Refusal::BrokenForm(byte) => byte,
-            Refusal::CannotStand(line) => line,
-            Refusal::NotBest(line) => line,
+            Refusal::CannotStand(line) | Refusal::NotBest(line) => line,
             Refusal::NoDirection(choice) => choice,
         }
     }
 }
+
+// For people: what is wrong, and where.
+impl fmt::Display for Refusal {
+    fn fmt<W: fmt::Write>(&self, f: &mut fmt::Formatter<W>) -> fmt::Result {
+        match self {
+            Refusal::OverLimit => write!(f, "a limit is passed"),
+            Refusal::ZeroAs(link) => write!(f, "link {link} names AS 0"),
+            Refusal::NoRelation(link) => write!(f, "link {link} has a relation that is not 0 or 1"),
+            Refusal::EqualEnds(link) => write!(f, "link {link} joins an AS to itself"),
+            Refusal::PairAgain(link) => write!(
+                f,
+                "link {link} joins a pair that was listed earlier"
+            ),
+            Refusal::TooManyAses(link) => write!(f, "link {link} brings in one AS too many"),
+            Refusal::NoDestination => write!(f, "the destination is not in the network"),
+            Refusal::OutputShort => write!(f, "the output is too short"),
+            Refusal::RoomShort => write!(f, "the working room is too short"),
+            Refusal::Unreadable(line) => write!(f, "line {line} of the text does not read"),
+            Refusal::BrokenForm(byte) => write!(f, "byte {byte} breaks the sheet's form"),
+            Refusal::CannotStand(line) => write!(f, "line {line} of the table cannot stand"),
+            Refusal::NotBest(line) => write!(f, "line {line} is not the best offer"),
+            Refusal::NoDirection(choice) => write!(f, "choice {choice} is no direction"),
+        }
+    }
+}
+
+impl Error for Refusal {}

@@ -11,9 +11,9 @@ use borrow.Author.Tests.{le-leb, lt-leb, eq-eqb, eqb-true}
 use lib.Dec.{leb, eqb}
 use lib.ListN.{length, get_or, take, drop, length-drop, drop_of_length-le}
 use lib.Seq.{drop-cons, get_or-drop}
+use Rattle.std.specs.Prelude.{Err, Ok}
+use Rattle.rules.specs.Replies.{Verdict}
 use Rattle.rules.specs.declared.Refusal.TheVariants.{BrokenForm}
-use Rattle.rules.specs.declared.Verdict.{Verdict}
-use Rattle.rules.specs.declared.Verdict.TheVariants.{Passes, Refused}
 use Rattle.rules.specs.Entry.{and_then}
 use Rattle.rules.specs.Judge.{Entry, entry}
 use Rattle.rules.proofs.Tests.{by_cond, and_left, and_right, tests}
@@ -120,42 +120,42 @@ pub record Formed (s : List ℕ) : Type 0 where
   pub whole : word2 s 8 ≡ 11 * count_of_lines s
   pub size : length s ≡ 10 + word2 s 8
 
-needs_met : (s : List ℕ) (i value : ℕ) (next : Verdict) → needs s i value next ≡ Passes → (i < length s) × (get_or s i 0 ≡ value) × (next ≡ Passes)
+needs_met : (s : List ℕ) (i value : ℕ) (next : Verdict) → needs s i value next ≡ Ok tt → (i < length s) × (get_or s i 0 ≡ value) × (next ≡ Ok tt)
 needs_met s i value next e =
     let p = not_refused (leb (length s) i) _ _ e in
     let q = test_passes (eqb (get_or s i 0) value) _ _ p.1 in
     (omega (tests, p.0), omega (tests, q.0), q.1)
 
 -- what bytes 8 and 9 get
-pub length_short : (s : List ℕ) → length s < 10 → Refused (BrokenForm (length s)) ≡ fault_of_length s
+pub length_short : (s : List ℕ) → length s < 10 → Err (BrokenForm (length s)) ≡ fault_of_length s
 unfolding fault_of_length
 length_short s h = simp (le-leb (length s) 9 (omega arith))
 
-pub length_right : (s : List ℕ) → 9 < length s → word2 s 8 % 11 ≡ 0 → word2 s 8 ≡ length s - 10 → Passes ≡ fault_of_length s
+pub length_right : (s : List ℕ) → 9 < length s → word2 s 8 % 11 ≡ 0 → word2 s 8 ≡ length s - 10 → Ok tt ≡ fault_of_length s
 unfolding fault_of_length
 length_right s h m e = simp (lt-leb (length s) 9 h, eq-eqb (word2 s 8 % 11) 0 m, eq-eqb (word2 s 8) (length s - 10) e)
 
-pub length_wrong : (s : List ℕ) → 9 < length s → (word2 s 8 % 11 ≡ 0 → word2 s 8 ≡ length s - 10 → ⊥) → Refused (BrokenForm 8) ≡ fault_of_length s
+pub length_wrong : (s : List ℕ) → 9 < length s → (word2 s 8 % 11 ≡ 0 → word2 s 8 ≡ length s - 10 → ⊥) → Err (BrokenForm 8) ≡ fault_of_length s
 unfolding fault_of_length
 length_wrong s h wrong =
     let whole = eqb (word2 s 8 % 11) 0 in
     let all = eqb (word2 s 8) (length s - 10) in
     rw (lt-leb (length s) 9 h)
-    (by_cond (λ (v : Verdict). Refused (BrokenForm 8) ≡ v) (whole && all) _ _
+    (by_cond (λ (v : Verdict). Err (BrokenForm 8) ≡ v) (whole && all) _ _
     (λ e. absurd (wrong (eqb-true _ _ (and_left whole all e)) (eqb-true _ _ (and_right whole all e)))) (λ e. refl))
 
 -- the checks of form one after the other
-needs_then : (s : List ℕ) (i value : ℕ) (next : Verdict) → and_then (needs s i value Passes) next ≡ needs s i value next
+needs_then : (s : List ℕ) (i value : ℕ) (next : Verdict) → and_then (needs s i value (Ok tt)) next ≡ needs s i value next
 needs_then s i value next = go (leb (length s) i) (eqb (get_or s i 0) value)
   where
-    go : (p q : Bool) → and_then (cond p (Refused (BrokenForm (length s))) (cond q Passes (Refused (BrokenForm i)))) next
-        ≡ cond p (Refused (BrokenForm (length s))) (cond q next (Refused (BrokenForm i)))
+    go : (p q : Bool) → and_then (cond p (Err (BrokenForm (length s))) (cond q (Ok tt) (Err (BrokenForm i)))) next
+        ≡ cond p (Err (BrokenForm (length s))) (cond q next (Err (BrokenForm i)))
     go true q = refl
     go false true = refl
     go false false = refl
 
-pub form_in_order : (s : List ℕ) (u v w x r : Verdict) → u ≡ needs s 0 1 Passes → v ≡ and_then u (needs s 1 0 Passes) → w ≡ and_then v (needs s 2 4 Passes)
-    → x ≡ and_then w (needs s 7 2 Passes) → r ≡ and_then x (fault_of_length s) → r ≡ fault_of_form s
+pub form_in_order : (s : List ℕ) (u v w x r : Verdict) → u ≡ needs s 0 1 (Ok tt) → v ≡ and_then u (needs s 1 0 (Ok tt)) → w ≡ and_then v (needs s 2 4 (Ok tt))
+    → x ≡ and_then w (needs s 7 2 (Ok tt)) → r ≡ and_then x (fault_of_length s) → r ≡ fault_of_form s
 unfolding fault_of_form
 form_in_order s u v w x r pu pv pw px pr =
     let a = needs_then s 7 2 (fault_of_length s) in
@@ -164,7 +164,7 @@ form_in_order s u v w x r pu pv pw px pr =
     let d = needs_then s 0 1 (needs s 1 0 (needs s 2 4 (needs s 7 2 (fault_of_length s)))) in
     pr ∙ rw (px, pw, pv, pu) (simp (then_assoc, a, b, c, d))
 
-pub formed : (s : List ℕ) → fault_of_form s ≡ Passes → Formed s
+pub formed : (s : List ℕ) → fault_of_form s ≡ Ok tt → Formed s
 unfolding fault_of_form fault_of_length
 formed s e =
     let p = needs_met s 0 1 _ e in
@@ -177,7 +177,7 @@ formed s e =
     let m = and_right (eqb (word2 s 8 % 11) 0) (eqb (word2 s 8) (length s - 10)) both in
     record { tag = p.1; high = q.1; low = u.1; tag2 = v.1; whole = omega (tests, l); size = omega (tests, l, m, long.0) }
 
-pub form_passes : (s : List ℕ) → Formed s → fault_of_form s ≡ Passes
+pub form_passes : (s : List ℕ) → Formed s → fault_of_form s ≡ Ok tt
 unfolding fault_of_form fault_of_length
 form_passes s f =
     let a = lt-leb (length s) 0 (omega (arith, f.size)) in

@@ -9,9 +9,9 @@ use lib.Dec.{leb}
 use lib.ListN.{length, take, drop}
 use lib.Seq.{take_at}
 use borrow.Author.Tests.{le-leb}
+use Rattle.std.specs.Prelude.{Ok, Result}
 use Rattle.rules.specs.declared.Limits.{Limits}
 use Rattle.rules.specs.declared.Refusal.TheVariants.{OverLimit}
-use Rattle.rules.specs.declared.Verdict.TheVariants.{Passes}
 use Rattle.rules.specs.Network.{links_of, ases_of}
 use Rattle.rules.specs.Checks.{base_limits}
 use Rattle.rules.specs.Entry.{unless, fault_of_links, filled}
@@ -19,7 +19,8 @@ use Rattle.rules.specs.Judge.{Entry, entries_of, words_of}
 use Rattle.rules.proofs.EntryLaws.{entries_words, words_entries, length_words}
 use Rattle.rules.proofs.VerdictLaws.{both_pass}
 use Rattle.rules.proofs.AcceptedLinks.{links_few}
-use Rattle.sheet.specs.declared.SheetRead.TheVariants.{Lines}
+use Rattle.rules.specs.declared.Refusal.{Refusal}
+use Rattle.sheet.specs.declared.SheetRead.{SheetRead}
 use Rattle.sheet.specs.Form.{sheet_of, fault_of_form, destination_of, count_of_lines, lines_of}
 use Rattle.sheet.specs.Places.{over}
 use Rattle.sheet.specs.Sizes.{Below}
@@ -48,7 +49,7 @@ table_given limits s words = take (4 * count_of_lines s) (final_table limits s w
 
 -- reading s into words gives the destination d and the table of n lines
 pub record Gives (limits : Limits) (s words : List ℕ) (d n : ℕ) (table : List ℕ) : Type 0 where
-  pub reply : read_reply limits s (length words) ≡ Lines d n
+  pub reply : read_reply limits s (length words) ≡ Ok (record { destination = d; lines = n })
   pub after : final_table limits s words ≡ over table words
 
 -- a sheet that reads back gives its lines
@@ -59,15 +60,16 @@ gives limits d es words back fits room =
     let s = sheet_of d es in
     let size = le-leb (length s) limits.sheet (omega (arith, back.size)) in
     let output = le-leb (4 * count_of_lines s) (length words) (omega (arith, back.count)) in
-    let passes : fault_of_reading limits s (length words) ≡ Passes = simp (size, back.form, output) in
+    let passes : fault_of_reading limits s (length words) ≡ Ok tt = simp (size, back.form, output) in
     let r = read_passes limits s words passes in
+    let reply : ℕ → ℕ → Result SheetRead Refusal = (λ x y. Ok (record { destination = x; lines = y })) in
     record {
-      reply = r.0 ∙ ap₂ Lines back.destination back.count;
+      reply = r.0 ∙ ap₂ reply back.destination back.count;
       after = r.1 ∙ ap (λ (l : List Entry). over (words_of l) words) back.lines;
     }
 
 pub read_written : (limits : Limits) (bound : ℕ) (ws : List ℕ) (d : ℕ) (table bytes words : List ℕ) → SheetLimits limits bound → d < 4294967296
-    → Below 4294967296 table → fault_of_writing limits bound ws d table (length bytes) ≡ Passes → length table ≤ length words
+    → Below 4294967296 table → fault_of_writing limits bound ws d table (length bytes) ≡ Ok tt → length table ≤ length words
     → Gives limits (sheet_given limits bound ws d table bytes) words d (length (ases_of (links_of ws))) table
 unfolding final_bytes
 read_written limits bound ws d table bytes words o hd b e room =
@@ -84,8 +86,8 @@ read_written limits bound ws d table bytes words o hd b e room =
     let table_again = words_entries (length us) table w.whole in
     rw given (rw (w.count, table_again) at (gives limits d es words back (omega (arith, w.count, o.bytes)) (omega (arith, w.count, w.whole))))
 
-pub write_read : (limits : Limits) (bound : ℕ) (ws s words bytes : List ℕ) → Below 256 s → fault_of_reading limits s (length words) ≡ Passes
-    → fault_of_writing limits bound ws (destination_of s) (table_given limits s words) (length bytes) ≡ Passes
+pub write_read : (limits : Limits) (bound : ℕ) (ws s words bytes : List ℕ) → Below 256 s → fault_of_reading limits s (length words) ≡ Ok tt
+    → fault_of_writing limits bound ws (destination_of s) (table_given limits s words) (length bytes) ≡ Ok tt
     → final_bytes limits bound ws (destination_of s) (table_given limits s words) bytes ≡ over s bytes
 unfolding final_bytes fault_of_reading
 write_read limits bound ws s words bytes b r e =

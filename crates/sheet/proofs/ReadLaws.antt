@@ -7,17 +7,17 @@ use native.Mathlib.Omega.{arith}
 use lib.Dec.{leb}
 use lib.ListN.{length, drop}
 use lib.Seq.{sets}
+use Rattle.std.specs.Prelude.{Err, Ok, Result}
 use Rattle.rules.specs.declared.Limits.{Limits}
 use Rattle.rules.specs.declared.Refusal.{Refusal}
 use Rattle.rules.specs.declared.Refusal.TheVariants.{OverLimit}
-use Rattle.rules.specs.declared.Verdict.TheVariants.{Passes, Refused}
 use Rattle.rules.specs.Entry.{unless, filled}
 use Rattle.rules.specs.Judge.{Entry, words_of}
 use Rattle.rules.proofs.Tests.{tests}
 use Rattle.rules.proofs.EntryLaws.{length_words, words_append}
 use Rattle.rules.proofs.VerdictLaws.{both_pass, test_passes}
 use Rattle.rules.proofs.StoreLaws.{sets-append, sets_front}
-use Rattle.sheet.specs.declared.SheetRead.TheVariants as read
+use Rattle.sheet.specs.declared.SheetRead.{SheetRead}
 use Rattle.sheet.specs.Form.{fault_of_form, destination_of, count_of_lines, lines_from, lines_of}
 use Rattle.sheet.specs.Places.{entry_line, over}
 use Rattle.sheet.specs.Entries.{fault_of_reading, reply_read, read_reply, final_table}
@@ -28,7 +28,7 @@ pub record Readable (s : List ℕ) (words : ℕ) : Type 0 where
   pub form : Formed s
   pub room : 4 * count_of_lines s ≤ words
 
-pub readable : (limits : Limits) (s : List ℕ) (words : ℕ) → fault_of_reading limits s words ≡ Passes → Readable s words
+pub readable : (limits : Limits) (s : List ℕ) (words : ℕ) → fault_of_reading limits s words ≡ Ok tt → Readable s words
 unfolding fault_of_reading
 readable limits s words e =
     let p = both_pass (unless (leb (length s) limits.sheet) OverLimit) _ e in
@@ -36,22 +36,23 @@ readable limits s words e =
     let r = test_passes (leb (4 * count_of_lines s) words) _ _ q.1 in
     record { form = formed s q.0; room = omega (tests, r.0) }
 
-pub read_passes : (limits : Limits) (s words : List ℕ) → fault_of_reading limits s (length words) ≡ Passes
-    → (read_reply limits s (length words) ≡ read.Lines (destination_of s) (count_of_lines s)) × (final_table limits s words ≡ over (words_of (lines_of s)) words)
+pub read_passes : (limits : Limits) (s words : List ℕ) → fault_of_reading limits s (length words) ≡ Ok tt
+    → (read_reply limits s (length words) ≡ Ok (record { destination = (destination_of s); lines = (count_of_lines s) })) × (final_table limits s words ≡ over (words_of (lines_of s)) words)
 unfolding read_reply final_table
 read_passes limits s words e = (ap (reply_read s) e, ap (λ v. filled v (words_of (lines_of s)) words) e)
 
-pub read_refused : (limits : Limits) (s words : List ℕ) (r : Refusal) → fault_of_reading limits s (length words) ≡ Refused r
-    → (read.Refused r ≡ read_reply limits s (length words)) × (words ≡ final_table limits s words)
+pub read_refused : (limits : Limits) (s words : List ℕ) (r : Refusal) → fault_of_reading limits s (length words) ≡ Err r
+    → (Err r ≡ read_reply limits s (length words)) × (words ≡ final_table limits s words)
 unfolding read_reply final_table
 read_refused limits s words r e = (sym (ap (reply_read s) e), sym (ap (λ v. filled v (words_of (lines_of s)) words) e))
 
-pub read_accepted : (limits : Limits) (s words after : List ℕ) (d n : ℕ) → fault_of_reading limits s (length words) ≡ Passes → d ≡ destination_of s → n ≡ count_of_lines s
+pub read_accepted : (limits : Limits) (s words after : List ℕ) (d n : ℕ) → fault_of_reading limits s (length words) ≡ Ok tt → d ≡ destination_of s → n ≡ count_of_lines s
     → after ≡ over (words_of (lines_from n (drop 10 s))) words
-    → (read.Lines d n ≡ read_reply limits s (length words)) × (after ≡ final_table limits s words)
+    → (Ok (record { destination = d; lines = n }) ≡ read_reply limits s (length words)) × (after ≡ final_table limits s words)
 read_accepted limits s words after d n e pd pn pa =
     let r = read_passes limits s words e in
-    (ap₂ read.Lines pd pn ∙ sym r.0, pa ∙ ap (λ (k : ℕ). over (words_of (lines_from k (drop 10 s))) words) pn ∙ sym r.1)
+    let reply : ℕ → ℕ → Result SheetRead Refusal = (λ x y. Ok (record { destination = x; lines = y })) in
+    (ap₂ reply pd pn ∙ sym r.0, pa ∙ ap (λ (k : ℕ). over (words_of (lines_from k (drop 10 s))) words) pn ∙ sym r.1)
 
 -- one line more
 pub read_more : (s old table after : List ℕ) (i : ℕ) (e : Entry) → table ≡ sets old 0 (words_of (lines_from i (drop 10 s))) → e ≡ entry_line s i

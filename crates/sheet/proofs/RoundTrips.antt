@@ -5,7 +5,7 @@ use mathlib.Core.Path.{◌≡◌, refl, ap, ◌∙◌}
 use mathlib.Core.List.{List, [], ◌∷◌, ◌++◌}
 use native.Mathlib.Omega.{arith}
 use lib.ListN.{length, drop, length-drop}
-use Rattle.rules.specs.declared.Verdict.TheVariants.{Passes}
+use Rattle.std.specs.Prelude.{Ok}
 use Rattle.rules.specs.Judge.{Entry}
 use Rattle.sheet.specs.Form.{bytes2, word2, lines_bytes, sheet_of, fault_of_form, destination_of, count_of_lines, lines_from, lines_of}
 use Rattle.sheet.specs.Sizes.{Below, Fits}
@@ -14,7 +14,7 @@ use Rattle.sheet.proofs.FormLaws.{formed, form_passes, spell, length-lines_bytes
 
 -- what reading finds in the sheet of d and es
 pub record ReadsBack (d : ℕ) (es : List Entry) : Type 0 where
-  pub form : fault_of_form (sheet_of d es) ≡ Passes
+  pub form : fault_of_form (sheet_of d es) ≡ Ok tt
   pub destination : destination_of (sheet_of d es) ≡ d
   pub count : count_of_lines (sheet_of d es) ≡ length es
   pub lines : lines_of (sheet_of d es) ≡ es
@@ -34,7 +34,7 @@ read_sheet d es hd f h =
       size = size;
     }
 
-pub sheet_read : (s : List ℕ) → Below 256 s → fault_of_form s ≡ Passes → sheet_of (destination_of s) (lines_of s) ≡ s
+pub sheet_read : (s : List ℕ) → Below 256 s → fault_of_form s ≡ Ok tt → sheet_of (destination_of s) (lines_of s) ≡ s
 unfolding sheet_of
 sheet_read s b e =
     let f = formed s e in

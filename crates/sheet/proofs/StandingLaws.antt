@@ -11,9 +11,9 @@ use lib.Dec.{eqb}
 use lib.ListN.{length, get_or, take, drop, length-drop, drop_of_length-le}
 use lib.Seq.{drop-cons, take_all}
 use borrow.Author.Tests.{eqb-true, eqb-false, ne_eqb}
+use Rattle.std.specs.Prelude.{Err, Ok}
+use Rattle.rules.specs.Replies.{Verdict}
 use Rattle.rules.specs.declared.Refusal.TheVariants.{NoDestination, CannotStand}
-use Rattle.rules.specs.declared.Verdict.{Verdict}
-use Rattle.rules.specs.declared.Verdict.TheVariants.{Passes, Refused}
 use Rattle.rules.specs.Entry.{and_then, unless, fault_of_destination}
 use Rattle.rules.specs.Judge.{Entry, entry, entries_of, stands, standing_from, standing}
 use Rattle.rules.proofs.Tests.{clash}
@@ -25,7 +25,7 @@ use Rattle.sheet.specs.Places.{entry_at}
 use Rattle.sheet.specs.Sizes.{Below, Fits}
 use Rattle.sheet.specs.Entries.{fault_of_table}
 
-pub same_count : (bound i : ℕ) (us : List ℕ) (es : List Entry) → standing_from bound i us es ≡ Passes → length es ≡ length us
+pub same_count : (bound i : ℕ) (us : List ℕ) (es : List Entry) → standing_from bound i us es ≡ Ok tt → length es ≡ length us
 unfolding standing_from
 same_count bound i [] [] h = refl
 same_count bound i [] (e ∷ es) h = cc
@@ -34,7 +34,7 @@ same_count bound i (u ∷ us) (e ∷ es) h =
     ap suc (same_count bound (suc i) us es (test_passes (stands bound u e) _ _ h).1)
 
 -- lines that stand, of words of 32 bits, fit a sheet
-pub standing_Fits : (bound i : ℕ) (us ws : List ℕ) → bound < 65536 → Below 4294967296 ws → standing_from bound i us (entries_of ws) ≡ Passes → Fits (entries_of ws)
+pub standing_Fits : (bound i : ℕ) (us ws : List ℕ) → bound < 65536 → Below 4294967296 ws → standing_from bound i us (entries_of ws) ≡ Ok tt → Fits (entries_of ws)
 unfolding standing_from entries_of
 standing_Fits bound i us [] b w h = tt
 standing_Fits bound i us (a ∷ []) b w h = tt
@@ -54,11 +54,11 @@ standing_at bound us ws i = standing_from bound i (drop i us) (entries_of (drop 
 
 -- .. by what line i gives
 pub standing_next : (bound : ℕ) (us ws : List ℕ) (i : ℕ) (e : Entry) (r : Bool) → i < length us → 4 * i + 4 ≤ length ws → e ≡ entry_at ws i
-    → r ≡ stands bound (get_or us i 0) e → standing_at bound us ws i ≡ cond r (standing_at bound us ws (i + 1)) (Refused (CannotStand i))
+    → r ≡ stands bound (get_or us i 0) e → standing_at bound us ws i ≡ cond r (standing_at bound us ws (i + 1)) (Err (CannotStand i))
 unfolding standing_from
 standing_next bound us ws i e r h g line test = rw (drop-cons us i 0 h, entries_next ws i g, add-one i, test, line)
 
-pub standing_end : (bound : ℕ) (us ws : List ℕ) (i : ℕ) → length us ≤ i → length ws < 4 * i + 4 → standing_at bound us ws i ≡ Passes
+pub standing_end : (bound : ℕ) (us ws : List ℕ) (i : ℕ) → length us ≤ i → length ws < 4 * i + 4 → standing_at bound us ws i ≡ Ok tt
 unfolding standing_from
 standing_end bound us ws i h g =
     let few : length (drop (4 * i) ws) < 4 = simp length-drop (omega arith) in
@@ -66,7 +66,7 @@ standing_end bound us ws i h g =
 
 -- 'Missing or surplus lines: place is the shorter count'
 pub standing_shorter : (bound i k : ℕ) (us : List ℕ) (es : List Entry) → k ≡ min (length us) (length es) → length us ≢ length es
-    → standing_from bound i us es ≡ and_then (standing_from bound i (take k us) (take k es)) (Refused (CannotStand (i + k)))
+    → standing_from bound i us es ≡ and_then (standing_from bound i (take k us) (take k es)) (Err (CannotStand (i + k)))
 unfolding standing_from
 standing_shorter bound i zero [] [] h ne = absurd (ne refl)
 standing_shorter bound i zero [] (e ∷ es) h ne = rw (add-zero i)
@@ -79,9 +79,9 @@ standing_shorter bound i (suc k) (u ∷ us) (e ∷ es) h ne =
     let rest = standing_shorter bound (suc i) k us es (omega arith) (λ q. ne (ap suc q)) in
     go (stands bound u e) (rw place at rest)
   where
-    go : (t : Bool) → standing_from bound (suc i) us es ≡ and_then (standing_from bound (suc i) (take k us) (take k es)) (Refused (CannotStand (i + suc k)))
-        → cond t (standing_from bound (suc i) us es) (Refused (CannotStand i))
-        ≡ and_then (cond t (standing_from bound (suc i) (take k us) (take k es)) (Refused (CannotStand i))) (Refused (CannotStand (i + suc k)))
+    go : (t : Bool) → standing_from bound (suc i) us es ≡ and_then (standing_from bound (suc i) (take k us) (take k es)) (Err (CannotStand (i + suc k)))
+        → cond t (standing_from bound (suc i) us es) (Err (CannotStand i))
+        ≡ and_then (cond t (standing_from bound (suc i) (take k us) (take k es)) (Err (CannotStand i))) (Err (CannotStand (i + suc k)))
     go true r = r
     go false r = refl
 
@@ -105,11 +105,11 @@ table_in_order bound us ws k h = rw (entries_take k ws) (go (eqb (length us) (le
         let place : 0 + k ≡ k = omega arith in
         let short = standing_shorter bound 0 k us es (omega (arith, length_entries ws)) (eqb-false (length us) (length es) e) in
         let wrong = ne_eqb (length ws) (4 * length us) (λ q. eqb-false (length us) (length es) e (omega (arith, length_entries ws))) in
-        rw (short, wrong, place) (then_assoc (standing bound (take k us) (take k es)) (Refused (CannotStand k)) _)
+        rw (short, wrong, place) (then_assoc (standing bound (take k us) (take k es)) (Err (CannotStand k)) _)
 
 -- the destination's place, or none, in the list of ASes
-pub destination_there : (d i : ℕ) (us : List ℕ) → i < length us → get_or us i 0 ≡ d → Passes ≡ fault_of_destination d us
+pub destination_there : (d i : ℕ) (us : List ℕ) → i < length us → get_or us i 0 ≡ d → Ok tt ≡ fault_of_destination d us
 destination_there d i us h e = rw (member_yes d us (rw e at (at_in 0 us i h)))
 
-pub destination_none : (d : ℕ) (us : List ℕ) → ((i : ℕ) → i < length us → get_or us i 0 ≢ d) → Refused NoDestination ≡ fault_of_destination d us
+pub destination_none : (d : ℕ) (us : List ℕ) → ((i : ℕ) → i < length us → get_or us i 0 ≢ d) → Err NoDestination ≡ fault_of_destination d us
 destination_none d us none = rw (member_no d us (λ m. (let (i, h, e) = in_at 0 us d m in none i h e)))

@@ -4,19 +4,16 @@
 --   fault_of_writing, write_reply, final_bytes  writing: 1; 2 to 6; 7; 11; 8
 --   fault_of_reading, read_reply, final_table  reading: 1; 10; 8
 --   judge_reply                          judging: 1; 2 to 6; 8 (room); 10; 7; 11; 12
-use Rattle.std.specs.Prelude.{ℕ, ◌+◌, ◌*◌, List, leb, eqb, length}
+use Rattle.rules.specs.Replies.{Verdict}
+use Rattle.rules.specs.declared.Refusal.{Refusal}
+use Rattle.std.specs.Prelude.{ℕ, ◌+◌, ◌*◌, List, leb, eqb, length, Err, Ok, Result}
 use Rattle.rules.specs.declared.Limits.{Limits}
 use Rattle.rules.specs.declared.Refusal.TheVariants.{OverLimit, CannotStand}
-use Rattle.rules.specs.declared.Checked.{Checked}
-use Rattle.rules.specs.declared.Checked.TheVariants as checked
-use Rattle.rules.specs.declared.Verdict.{Verdict}
-use Rattle.rules.specs.declared.Verdict.TheVariants.{Passes, Refused}
 use Rattle.rules.specs.Network.{links_of, ases_of}
 use Rattle.rules.specs.Checks.{needed_room}
 use Rattle.rules.specs.Entry.{and_then, unless, fault_of_links, fault_of_destination, fault_of_output, fault_of_room, filled}
 use Rattle.rules.specs.Judge.{entries_of, words_of, standing, judge}
 use Rattle.sheet.specs.declared.SheetRead.{SheetRead}
-use Rattle.sheet.specs.declared.SheetRead.TheVariants as read
 use Rattle.sheet.specs.Form.{sheet_of, fault_of_form, destination_of, count_of_lines, lines_of}
 
 -- 'a table that isn't four words per AS gets 11 for that at the smaller of its whole entries and the number of ASes'
@@ -31,11 +28,11 @@ fault_of_writing limits bound ws d table room =
     and_then (fault_of_links limits ws)
     (and_then (fault_of_destination d us) (and_then (fault_of_table bound us table) (fault_of_output (10 + 11 * length us) room)))
 
-abbrev pub reply_with : Verdict → ℕ → Checked
-reply_with Passes n = checked.Accepted n
-reply_with (Refused r) n = checked.Refused r
+abbrev pub reply_with : Verdict → ℕ → Result ℕ Refusal
+reply_with (Ok tt) n = Ok n
+reply_with (Err r) n = Err r
 
-unfoldable pub write_reply : Limits → ℕ → List ℕ → ℕ → List ℕ → ℕ → Checked
+unfoldable pub write_reply : Limits → ℕ → List ℕ → ℕ → List ℕ → ℕ → Result ℕ Refusal
 write_reply limits bound ws d table room =
     reply_with (fault_of_writing limits bound ws d table room) (10 + 11 * length (ases_of (links_of ws)))
 
@@ -48,11 +45,11 @@ unfoldable pub fault_of_reading : Limits → List ℕ → ℕ → Verdict
 fault_of_reading limits s room =
     and_then (unless (leb (length s) limits.sheet) OverLimit) (and_then (fault_of_form s) (fault_of_output (4 * count_of_lines s) room))
 
-abbrev pub reply_read : List ℕ → Verdict → SheetRead
-reply_read s Passes = read.Lines (destination_of s) (count_of_lines s)
-reply_read s (Refused r) = read.Refused r
+abbrev pub reply_read : List ℕ → Verdict → Result SheetRead Refusal
+reply_read s (Ok tt) = Ok (record { destination = (destination_of s); lines = (count_of_lines s) })
+reply_read s (Err r) = Err r
 
-unfoldable pub read_reply : Limits → List ℕ → ℕ → SheetRead
+unfoldable pub read_reply : Limits → List ℕ → ℕ → Result SheetRead Refusal
 read_reply limits s room = reply_read s (fault_of_reading limits s room)
 
 unfoldable pub final_table : Limits → List ℕ → List ℕ → List ℕ

@@ -4,10 +4,9 @@
 --   sheet_of d es      the sheet of the destination d and the lines es
 --   fault_of_form s    10: the first byte where the form is broken
 --   destination_of s, lines_of s  what a sheet of right form says
-use Rattle.std.specs.Prelude.{ℕ, zero, suc, ◌+◌, ◌-◌, ◌*◌, ◌/◌, ◌%◌, cond, ◌&&◌, List, [], ◌∷◌, ◌++◌, leb, eqb, length, get_or, drop}
+use Rattle.rules.specs.Replies.{Verdict}
+use Rattle.std.specs.Prelude.{ℕ, zero, suc, ◌+◌, ◌-◌, ◌*◌, ◌/◌, ◌%◌, cond, ◌&&◌, List, [], ◌∷◌, ◌++◌, leb, eqb, length, get_or, drop, Err}
 use Rattle.rules.specs.declared.Refusal.TheVariants.{BrokenForm}
-use Rattle.rules.specs.declared.Verdict.{Verdict}
-use Rattle.rules.specs.declared.Verdict.TheVariants.{Refused}
 use Rattle.rules.specs.Entry.{unless}
 use Rattle.rules.specs.Judge.{Entry, entry}
 
@@ -39,13 +38,13 @@ sheet_of d es = (1 ∷ 0 ∷ 4 ∷ []) ++ (bytes4 d ++ ((2 ∷ []) ++ (bytes2 (1
 -- 'A wrong byte is its own place, the first one found. A sheet that ends before a needed tag or length byte has its own length as place'
 abbrev pub needs : List ℕ → ℕ → ℕ → Verdict → Verdict
 needs s i value next =
-    cond (leb (length s) i) (Refused (BrokenForm (length s)))
-    (cond (eqb (get_or s i 0) value) next (Refused (BrokenForm i)))
+    cond (leb (length s) i) (Err (BrokenForm (length s)))
+    (cond (eqb (get_or s i 0) value) next (Err (BrokenForm i)))
 
 -- 'bytes 8 and 9 are a multiple of 11 and equal the bytes left (place 8)'
 unfoldable pub fault_of_length : List ℕ → Verdict
 fault_of_length s =
-    cond (leb (length s) 9) (Refused (BrokenForm (length s)))
+    cond (leb (length s) 9) (Err (BrokenForm (length s)))
     (unless (eqb (word2 s 8 % 11) 0 && eqb (word2 s 8) (length s - 10)) (BrokenForm 8))
 
 -- 'byte 0 is 1; bytes 1 and 2 say 4; byte 7 is 2'

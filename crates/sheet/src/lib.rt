@@ -5,7 +5,7 @@ ghost use Rattle.std.specs.Prelude.{◌≡◌, length};
 ghost use Rattle.rules.specs.Checks.{base_limits};
 ghost use Rattle.sheet.specs.Entries.{read_reply, final_table, write_reply, final_bytes};
 
-use rules::{Checked, Limits, Refusal};
+use rules::{Limits, Refusal};
 
 mod numbers;
 pub mod reading;
@@ -22,15 +22,15 @@ pub const BYTES_PER_LINE: usize = 11;
 // The longest length that a line can have.
 pub const LONGEST: u32 = 511;
 
-// What reading a sheet gives: the destination and the number of lines, or a refusal.
-#[derive(Clone, Copy)]
-pub enum SheetRead {
-    Lines(u32, usize),
-    Refused(Refusal),
+// What reading a sheet gives: the destination and the number of lines.
+#[derive(Clone, Copy, Debug, PartialEq, Eq)]
+pub struct SheetRead {
+    pub destination: u32,
+    pub lines: usize,
 }
 
 // Reads a sheet into table words, four per line: refusals 1, 10, 8. Words beyond the last line stay as they were.
-pub fn read_sheet(sheet: &[u8], table: &mut [u32]) -> SheetRead
+pub fn read_sheet(sheet: &[u8], table: &mut [u32]) -> Result<SheetRead, Refusal>
     ensures reply { result ≡ read_reply base_limits sheet.now (length table.old) }
     ensures table { table.new ≡ final_table base_limits sheet.now table.old }
 {
@@ -39,12 +39,12 @@ pub fn read_sheet(sheet: &[u8], table: &mut [u32]) -> SheetRead
 
 // Writes the sheet of a table for a network: the number of its bytes, or refusals 1, 2 to 6, 7, 11, 8. Bytes beyond the sheet stay as they
 // were.
-pub fn write_sheet(words: &[u32], destination: u32, table: &[u32], bytes: &mut [u8]) -> Checked
+pub fn write_sheet(words: &[u32], destination: u32, table: &[u32], bytes: &mut [u8]) -> Result<usize, Refusal>
     ensures reply { result ≡ write_reply base_limits 511 words.now destination table.now (length bytes.old) }
     ensures bytes { bytes.new ≡ final_bytes base_limits 511 words.now destination table.now bytes.old }
 {
     let checked = network::check_links(words);
-    let Checked::Accepted(_) = checked else {
+    let Ok(_) = checked else {
         return checked;
     };
     let mut ases = [0u32; 512];

@@ -1,6 +1,5 @@
 // A sheet read: its form, its numbers at their places, its lines as table words.
-ghost use Rattle.std.specs.Prelude.{◌+◌, ◌*◌, ◌≤◌, ◌<◌, ◌≡◌, length, drop};
-ghost use Rattle.rules.specs.declared.Verdict.TheVariants.{Passes};
+ghost use Rattle.std.specs.Prelude.{◌+◌, ◌*◌, ◌≤◌, ◌<◌, ◌≡◌, length, drop, Ok};
 ghost use Rattle.rules.specs.Entry.{and_then};
 ghost use Rattle.rules.specs.Judge.{words_of};
 ghost use Rattle.sheet.specs.Form.{needs, fault_of_length, fault_of_form, destination_of, count_of_lines, lines_from};
@@ -9,48 +8,48 @@ ghost use Rattle.sheet.specs.Entries.{fault_of_reading, read_reply, final_table}
 
 use super::rows::{Row, WORDS_PER_LINE};
 use super::{BYTES_PER_LINE, HEAD_BYTES, SheetRead, numbers, rows};
-use rules::{Limits, Refusal, Verdict};
+use rules::{Limits, Refusal};
 
 // The first fault so far, or that byte i is not there or has another value.
-fn byte_fault(before: Verdict, sheet: &[u8], i: usize, value: u8) -> Verdict
-    ensures { result ≡ and_then before (needs sheet.now i value Passes) }
+fn byte_fault(before: Result<(), Refusal>, sheet: &[u8], i: usize, value: u8) -> Result<(), Refusal>
+    ensures { result ≡ and_then before (needs sheet.now i value (Ok tt)) }
 {
-    let Verdict::Passes = before else {
+    let Ok(()) = before else {
         return before;
     };
     if sheet.len() <= i {
-        return Verdict::Refused(Refusal::BrokenForm(sheet.len()));
+        return Err(Refusal::BrokenForm(sheet.len()));
     }
     if sheet[i] == value {
-        return Verdict::Passes;
+        return Ok(());
     }
-    Verdict::Refused(Refusal::BrokenForm(i))
+    Err(Refusal::BrokenForm(i))
 }
 
 // The first fault so far, or that bytes 8 and 9 are no multiple of 11 or not the bytes left.
-fn length_fault(before: Verdict, sheet: &[u8]) -> Verdict
+fn length_fault(before: Result<(), Refusal>, sheet: &[u8]) -> Result<(), Refusal>
     ensures { result ≡ and_then before (fault_of_length sheet.now) }
 {
-    let Verdict::Passes = before else {
+    let Ok(()) = before else {
         return before;
     };
     if sheet.len() < HEAD_BYTES {
-        return Verdict::Refused(Refusal::BrokenForm(sheet.len()));
+        return Err(Refusal::BrokenForm(sheet.len()));
     }
     let size = numbers::word2(sheet, 8) as usize;
     if size % BYTES_PER_LINE == 0 {
         if size == sheet.len() - HEAD_BYTES {
-            return Verdict::Passes;
+            return Ok(());
         }
     }
-    Verdict::Refused(Refusal::BrokenForm(8))
+    Err(Refusal::BrokenForm(8))
 }
 
 // Refusal 10: byte 0 is 1; bytes 1 and 2 say 4; byte 7 is 2; then bytes 8 and 9.
-pub fn form_fault(sheet: &[u8]) -> Verdict
+pub fn form_fault(sheet: &[u8]) -> Result<(), Refusal>
     ensures { result ≡ fault_of_form sheet.now }
 {
-    let tag = byte_fault(Verdict::Passes, sheet, 0, 1);
+    let tag = byte_fault(Ok(()), sheet, 0, 1);
     let high = byte_fault(tag, sheet, 1, 0);
     let low = byte_fault(high, sheet, 2, 4);
     let tags = byte_fault(low, sheet, 7, 2);
@@ -101,33 +100,33 @@ pub fn read_lines(sheet: &[u8], n: usize, table: &mut [u32])
 }
 
 // Refusals 1, 10, 8 of a sheet to be read into so many table words.
-fn read_fault(limits: Limits, sheet: &[u8], words: usize) -> Verdict
+fn read_fault(limits: Limits, sheet: &[u8], words: usize) -> Result<(), Refusal>
     ensures { result ≡ fault_of_reading limits sheet.now words }
 {
     if limits.sheet < sheet.len() {
-        return Verdict::Refused(Refusal::OverLimit);
+        return Err(Refusal::OverLimit);
     }
     let form = form_fault(sheet);
-    let Verdict::Passes = form else {
+    let Ok(()) = form else {
         return form;
     };
     if words < WORDS_PER_LINE * line_count(sheet) {
-        return Verdict::Refused(Refusal::OutputShort);
+        return Err(Refusal::OutputShort);
     }
-    Verdict::Passes
+    Ok(())
 }
 
 // Reading within given limits. Nothing is written before all refusals are looked at.
-pub(crate) fn read_within(limits: Limits, sheet: &[u8], table: &mut [u32]) -> SheetRead
+pub(crate) fn read_within(limits: Limits, sheet: &[u8], table: &mut [u32]) -> Result<SheetRead, Refusal>
     ensures reply { result ≡ read_reply limits sheet.now (length table.old) }
     ensures table { table.new ≡ final_table limits sheet.now table.old }
 {
     match read_fault(limits, sheet, table.len()) {
-        Verdict::Passes => {
+        Ok(()) => {
             let n = line_count(sheet);
             read_lines(sheet, n, table);
-            SheetRead::Lines(destination(sheet), n)
+            Ok(SheetRead { destination: destination(sheet), lines: n })
         }
-        Verdict::Refused(refusal) => SheetRead::Refused(refusal),
+        Err(refusal) => Err(refusal),
     }
 }

@@ -7,18 +7,17 @@ ghost use Rattle.sheet.specs.Entries.{fault_of_table};
 
 use super::rows;
 use super::rows::WORDS_PER_LINE;
-use network::Place;
-use rules::{Refusal, Verdict};
+use rules::Refusal;
 
 // Refusal 7: the destination is none of the ASes.
-pub(crate) fn destination_fault(ases: &[u32], destination: u32) -> Verdict
+pub(crate) fn destination_fault(ases: &[u32], destination: u32) -> Result<(), Refusal>
     requires { Ascending ases.now }
     ensures { result ≡ fault_of_destination destination ases.now }
 {
-    let Place::At(_) = network::place_of(ases, ases.len(), destination) else {
-        return Verdict::Refused(Refusal::NoDestination);
+    let Some(_) = network::place_of(ases, ases.len(), destination) else {
+        return Err(Refusal::NoDestination);
     };
-    Verdict::Passes
+    Ok(())
 }
 
 // The smaller of two counts.
@@ -29,7 +28,7 @@ pub fn shorter(n: usize, m: usize) -> usize
 }
 
 // Refusal 11 of a table of as many lines as there are ASes: the lowest line that cannot stand.
-pub fn lines_fault(ases: &[u32], table: &[u32], bound: u32) -> Verdict
+pub fn lines_fault(ases: &[u32], table: &[u32], bound: u32) -> Result<(), Refusal>
     requires { length table.now ≡ 4 * length ases.now }
     ensures { result ≡ standing bound ases.now (entries_of table.now) }
 {
@@ -39,24 +38,24 @@ pub fn lines_fault(ases: &[u32], table: &[u32], bound: u32) -> Verdict
         if row.stands(ases[i], bound) {
             i += 1;
         } else {
-            return Verdict::Refused(Refusal::CannotStand(i));
+            return Err(Refusal::CannotStand(i));
         }
     }
-    Verdict::Passes
+    Ok(())
 }
 
 // Refusal 11 of any table: missing or surplus lines and words have the shorter count as place.
-pub(crate) fn table_fault(ases: &[u32], table: &[u32], bound: u32) -> Verdict
+pub(crate) fn table_fault(ases: &[u32], table: &[u32], bound: u32) -> Result<(), Refusal>
     ensures { result ≡ fault_of_table bound ases.now table.now }
 {
     let n = ases.len();
     let k = shorter(n, table.len() / WORDS_PER_LINE);
     let fault = lines_fault(&ases[..k], &table[..WORDS_PER_LINE * k], bound);
-    let Verdict::Passes = fault else {
+    let Ok(()) = fault else {
         return fault;
     };
     if table.len() == WORDS_PER_LINE * n {
-        return Verdict::Passes;
+        return Ok(());
     }
-    Verdict::Refused(Refusal::CannotStand(k))
+    Err(Refusal::CannotStand(k))
 }

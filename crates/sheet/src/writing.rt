@@ -9,7 +9,7 @@ ghost use Rattle.sheet.specs.Writing.{OneField, fault_of_sheet, Wrote};
 
 use super::rows::{Row, WORDS_PER_LINE};
 use super::{BYTES_PER_LINE, HEAD_BYTES, numbers, rows, standing};
-use rules::{Checked, Refusal, Verdict};
+use rules::Refusal;
 
 // The ten bytes before lines of so many bytes.
 fn put_head(bytes: &mut [u8], destination: u32, size: u32)
@@ -60,22 +60,22 @@ pub fn put_sheet(bytes: &mut [u8], destination: u32, table: &[u32])
 }
 
 // Refusals 7, 11, 8 of a sheet to be written into so many bytes.
-fn sheet_fault(ases: &[u32], destination: u32, table: &[u32], bound: u32, room: usize) -> Verdict
+fn sheet_fault(ases: &[u32], destination: u32, table: &[u32], bound: u32, room: usize) -> Result<(), Refusal>
     requires { Ascending ases.now × OneField ases.now }
     ensures { result ≡ fault_of_sheet bound ases.now destination table.now room }
 {
     let named = standing::destination_fault(ases, destination);
-    let Verdict::Passes = named else {
+    let Ok(()) = named else {
         return named;
     };
     let lines = standing::table_fault(ases, table, bound);
-    let Verdict::Passes = lines else {
+    let Ok(()) = lines else {
         return lines;
     };
     if room < HEAD_BYTES + BYTES_PER_LINE * ases.len() {
-        return Verdict::Refused(Refusal::OutputShort);
+        return Err(Refusal::OutputShort);
     }
-    Verdict::Passes
+    Ok(())
 }
 
 // Writes the sheet of a table for the ASes of a network: the number of its bytes, or refusals 7, 11, 8.
@@ -85,15 +85,15 @@ pub(crate) fn write_for(
     table: &[u32],
     bound: u32,
     bytes: &mut [u8],
-) -> Checked
+) -> Result<usize, Refusal>
     requires { Ascending ases.now × OneField ases.now }
     ensures { Wrote bound ases.now destination table.now bytes.old bytes.new result }
 {
     match sheet_fault(ases, destination, table, bound, bytes.len()) {
-        Verdict::Passes => {
+        Ok(()) => {
             put_sheet(bytes, destination, table);
-            Checked::Accepted(HEAD_BYTES + BYTES_PER_LINE * ases.len())
+            Ok(HEAD_BYTES + BYTES_PER_LINE * ases.len())
         }
-        Verdict::Refused(refusal) => Checked::Refused(refusal),
+        Err(refusal) => Err(refusal),
     }
 }

@@ -2,7 +2,6 @@
 // held to the file stdout, which the second program wrote.
 #![tactic(auto)]
 
-use rules::Verdict;
 use std::io;
 
 // Network A: 10|20|-1, 20|30|-1, 30|40|-1, 10|40|0, 10|50|-1.
@@ -21,8 +20,8 @@ fn end_line(rt: &impl Print) -> io::Result<()> {
 fn say_judged(rt: &impl Print, sheet: &[u8]) -> io::Result<()> {
     let mut room = [0u32; 80];
     match judge::judge_sheet(&NETWORK_A, sheet, &mut room) {
-        Verdict::Passes => say_pair(rt, 0, 0),
-        Verdict::Refused(why) => say_pair(rt, why.number(), why.place()),
+        Ok(()) => say_pair(rt, 0, 0),
+        Err(why) => say_pair(rt, why.number(), why.place()),
     }
 }
 

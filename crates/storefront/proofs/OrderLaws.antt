@@ -8,8 +8,8 @@ use native.Mathlib.Omega.{arith}
 use lib.Dec.{leb, eqb}
 use lib.ListN.{length}
 use borrow.Author.Tests.{le-leb, leb-true}
+use Rattle.std.specs.Prelude.{Ok}
 use Rattle.rules.specs.declared.Refusal.TheVariants.{OverLimit, NoDestination, OutputShort, RoomShort}
-use Rattle.rules.specs.declared.Verdict.TheVariants.{Passes}
 use Rattle.rules.specs.Lists.{any_of}
 use Rattle.rules.specs.Network.{links_of, ases_of}
 use Rattle.rules.specs.Checks.{base_limits, needed_room}
@@ -27,9 +27,9 @@ use Rattle.storefront.specs.Steps.{room_words}
 use Rattle.storefront.proofs.PlaceLaws.{Fits, unless-Fits, links_fit, form_Fits, judge-Fits, choices_fit}
 
 -- the limits on a run
-pub run_limits : (cs : List ℕ) (n : ℕ) → unless (leb (length cs) 65536 && leb n 65536) OverLimit ≡ Passes → (length cs ≤ 65536) × (n ≤ 65536)
+pub run_limits : (cs : List ℕ) (n : ℕ) → unless (leb (length cs) 65536 && leb n 65536) OverLimit ≡ Ok tt → (length cs ≤ 65536) × (n ≤ 65536)
 run_limits cs n e =
-    let both = (test_passes (leb (length cs) 65536 && leb n 65536) Passes OverLimit e).0 in
+    let both = (test_passes (leb (length cs) 65536 && leb n 65536) (Ok tt) OverLimit e).0 in
     omega (tests, and_left (leb (length cs) 65536) (leb n 65536) both, and_right (leb (length cs) 65536) (leb n 65536) both)
 
 -- the parts of an entry's verdict
@@ -49,12 +49,12 @@ module _ (ws : List ℕ) where
   abbrev need : ℕ
   need = needed_room (length (links_of ws)) (length us)
 
-  module _ (e : fault_of_links base_limits ws ≡ Passes) where
+  module _ (e : fault_of_links base_limits ws ≡ Ok tt) where
     pub few_ases : length us ≤ 512
     few_ases = links_few base_limits ws e
 
     -- 'so the program's own working room of 16,384 words always suffices'
-    pub room_suffices : fault_of_room need room_words ≡ Passes
+    pub room_suffices : fault_of_room need room_words ≡ Ok tt
     room_suffices = rw (le-leb need room_words (omega (arith, few_ases, (links_accepted base_limits ws e).2.few_links)))
 
   pub found_Fits : Fits (fault_of_findings base_limits ws room_words)
@@ -67,7 +67,7 @@ module _ (ws : List ℕ) where
       then_Below 268435456 (unless (leb (length s) 65536) OverLimit) _ (unless-Fits (leb (length s) 65536) OverLimit (omega arith))
       (λ size. then_Below 268435456 (fault_of_links base_limits ws) _ (links_fit ws)
       (λ links. then_Below 268435456 (fault_of_room need room_words) _ (room_fits need room_words)
-      (λ room. then_Below 268435456 (fault_of_form s) _ (form_Fits s (leb-true (length s) 65536 (test_passes (leb (length s) 65536) Passes OverLimit size).0))
+      (λ room. then_Below 268435456 (fault_of_form s) _ (form_Fits s (leb-true (length s) 65536 (test_passes (leb (length s) 65536) (Ok tt) OverLimit size).0))
       (λ form. then_Below 268435456 (fault_of_destination (destination_of s) us) _ (destination_Fits (destination_of s) us)
       (λ named. judge-Fits (links_of ws) (destination_of s) 511 (lines_of s) (few_ases links))))))
 

@@ -9,12 +9,11 @@ use mathlib.Core.List.{List, [], ◌∷◌}
 use native.Mathlib.Omega.{arith}
 use lib.Dec.{ltb, leb, eqb}
 use lib.ListN.{length, get_or}
+use Rattle.rules.specs.Replies.{Verdict}
+use Rattle.std.specs.Prelude.{Err, Result}
 use Rattle.rules.specs.declared.Link.{Link}
 use Rattle.rules.specs.declared.Refusal.{Refusal}
 use Rattle.rules.specs.declared.Refusal.TheVariants.{OverLimit, ZeroAs, NoRelation, EqualEnds, PairAgain, TooManyAses, NoDestination, OutputShort, RoomShort, Unreadable, BrokenForm, CannotStand, NotBest, NoDirection}
-use Rattle.rules.specs.declared.Checked.{Checked}
-use Rattle.rules.specs.declared.Verdict.{Verdict}
-use Rattle.rules.specs.declared.Verdict.TheVariants.{Refused}
 use Rattle.rules.specs.Refusals.{refusal_number}
 use Rattle.rules.specs.Offers.{Arc}
 use Rattle.rules.specs.Network.{links_of, ases_of, arcs_of}
@@ -50,7 +49,7 @@ number_range (NoDirection choice) = omega arith
 abbrev pub Fits : Verdict → Type 0
 Fits = Below 268435456
 
-pub Fits-Placed : {v : Verdict} {why : Refusal} → v ≡ Refused why → Fits v → Placed why
+pub Fits-Placed : {v : Verdict} {why : Refusal} → v ≡ Err why → Fits v → Placed why
 Fits-Placed e f = subst Fits e f
 
 pub unless-Fits : (test : Bool) (why : Refusal) → Placed why → Fits (unless test why)
@@ -61,7 +60,7 @@ unless-Fits = unless-Below 268435456
 pub links_fit : (ws : List ℕ) → Fits (fault_of_links base_limits ws)
 unfolding check_words
 links_fit ws =
-    by_cond (λ (c : Checked). Fits (verdict_of c)) (eqb (length ws % 3) 0) _ _
+    by_cond (λ (c : Result ℕ Refusal). Fits (verdict_of c)) (eqb (length ws % 3) 0) _ _
     (λ e. check_Below 268435456 base_limits (links_of ws) (omega arith) (omega arith)) (λ e. omega arith)
 
 -- Sheets --------------------------------------------------------------------------------------------------------------------

@@ -3,10 +3,8 @@ use Prim.Native.Nat.{ℕ, ◌*◌}
 use mathlib.Core.Path.{◌≡◌}
 use mathlib.Core.List.{List}
 use native.Mathlib.Omega.{arith}
+use Rattle.std.specs.Prelude.{Err, Ok, Result}
 use Rattle.rules.specs.declared.Refusal.{Refusal}
-use Rattle.rules.specs.declared.Checked.{Checked}
-use Rattle.rules.specs.declared.Checked.TheVariants as checked
-use Rattle.rules.specs.declared.Verdict.TheVariants.{Refused}
 use Rattle.rules.specs.Checks.{base_limits}
 use Rattle.linktext.specs.Texts.{text_in}
 use Rattle.linktext.specs.TextNetworks.{fault_of_network}
@@ -18,8 +16,8 @@ use Rattle.storefront.specs.Page.{packed_no}
 use Rattle.storefront.specs.Steps.{Placed, ReadText}
 use Rattle.storefront.proofs.PlaceLaws.{number_range, Fits-Placed}
 
-module _ (t old ws : List ℕ) {r : Checked} (into : ReadInto (text_in base_limits t) old ws r) where
-  pub read_links : (m : ℕ) → r ≡ checked.Accepted m → ReadText t (record { refusal = 0; end = 3 * m }) ws
+module _ (t old ws : List ℕ) {r : Result ℕ Refusal} (into : ReadInto (text_in base_limits t) old ws r) where
+  pub read_links : (m : ℕ) → r ≡ Ok m → ReadText t (record { refusal = 0; end = 3 * m }) ws
   read_links m e =
       let g = got (text_in base_limits t) old ws r m into e in
       record {
@@ -28,8 +26,8 @@ module _ (t old ws : List ℕ) {r : Checked} (into : ReadInto (text_in base_limi
         unread = λ h. absurd (omega arith);
       }
 
-  module _ (why : Refusal) (e : r ≡ checked.Refused why) where
-    fault : fault_of_network base_limits t ≡ Refused why
+  module _ (why : Refusal) (e : r ≡ Err why) where
+    fault : fault_of_network base_limits t ≡ Err why
     fault = lost_fault base_limits t (lost (text_in base_limits t) old ws r why into e)
 
     pub unread_Placed : Placed why

@@ -7,11 +7,11 @@ use mathlib.Core.List.{List}
 use lib.Dec.{leb}
 use lib.ListN.{length}
 use borrow.Author.Tests.{le-leb, lt-leb, leb-false, lt-ltb}
+use Rattle.std.specs.Prelude.{Err}
+use Rattle.rules.specs.Replies.{Verdict}
 use Rattle.rules.specs.declared.Link.{Link}
 use Rattle.rules.specs.declared.Refusal.{Refusal}
 use Rattle.rules.specs.declared.Refusal.TheVariants.{OverLimit}
-use Rattle.rules.specs.declared.Verdict.{Verdict}
-use Rattle.rules.specs.declared.Verdict.TheVariants.{Refused}
 use Rattle.rules.specs.Network.{links_of, ases_of, arcs_of}
 use Rattle.rules.specs.Checks.{base_limits}
 use Rattle.rules.specs.Entry.{and_then, unless, fault_of_links, fault_of_destination, fault_of_output, filled}
@@ -35,7 +35,7 @@ use Rattle.storefront.proofs.OrderLaws.{room_suffices}
 -- Sizes --------------------------------------------------------------------------------------------------------------------
 
 -- the text's byte limit is the first test of its network
-long_text : (t : List ℕ) → leb (length t) 65536 ≡ false → fault_of_network base_limits t ≡ Refused OverLimit
+long_text : (t : List ℕ) → leb (length t) 65536 ≡ false → fault_of_network base_limits t ≡ Err OverLimit
 unfolding fault_of_network text_in
 long_text t e = rw (lt-ltb 65536 (length t) (leb-false (length t) 65536 e))
 
@@ -55,7 +55,7 @@ and_no false b e = refl
 
 -- The text is refused ------------------------------------------------------------------------------------------------------
 
-module _ (t : List ℕ) (why : Refusal) (e : fault_of_network base_limits t ≡ Refused why) where
+module _ (t : List ℕ) (why : Refusal) (e : fault_of_network base_limits t ≡ Err why) where
   pub found_unread : packed_no why ≡ findings_reply base_limits t
   unfolding findings_reply
   found_unread = rw e
@@ -123,11 +123,11 @@ module _ (t : List ℕ) (d : ℕ) (cs : List ℕ) (n : ℕ) (table : List ℕ) w
   abbrev Replied : ℕ → List ℕ → Type 0
   Replied r after = (r ≡ run_reply base_limits t d cs n (length table)) × (after ≡ final_table base_limits t d cs n table)
 
-  run_refused : (why : Refusal) → fault_of_run base_limits t d cs n (length table) ≡ Refused why → {r : ℕ} → r ≡ packed_no why → Replied r table
+  run_refused : (why : Refusal) → fault_of_run base_limits t d cs n (length table) ≡ Err why → {r : ℕ} → r ≡ packed_no why → Replied r table
   unfolding run_reply final_table
   run_refused why e p = (p ∙ rw e, rw e)
 
-  run_limits : (leb (length cs) 65536 && leb n 65536) ≡ false → fault_of_run base_limits t d cs n (length table) ≡ Refused OverLimit
+  run_limits : (leb (length cs) 65536 && leb n 65536) ≡ false → fault_of_run base_limits t d cs n (length table) ≡ Err OverLimit
   unfolding fault_of_run
   run_limits e =
       test_fails (leb (length t) 65536 && leb (length cs) 65536 && leb n 65536) OverLimit _
@@ -151,7 +151,7 @@ module _ (t : List ℕ) (d : ℕ) (cs : List ℕ) (n : ℕ) (table : List ℕ) w
         (and_assoc (leb (length t) 65536) (leb (length cs) 65536) (leb n 65536))
         ∙ sizes_first t (leb (length cs) 65536 && leb n 65536) _ within
 
-    pub run_unread : (why : Refusal) → fault_of_network base_limits t ≡ Refused why → {r : ℕ} → r ≡ packed_no why → Replied r table
+    pub run_unread : (why : Refusal) → fault_of_network base_limits t ≡ Err why → {r : ℕ} → r ≡ packed_no why → Replied r table
     run_unread why e = run_refused why (run_network ∙ rw e)
 
     module _ (ws : List ℕ) (g : Given t ws) where

@@ -7,12 +7,10 @@ use native.Mathlib.Omega.{arith}
 use lib.ListN.{length, take}
 use lib.Seq.{take_at}
 use borrow.Author.Tests.{le-leb, lt-leb}
+use Rattle.rules.specs.Replies.{Verdict}
+use Rattle.std.specs.Prelude.{Err, Ok, Result}
 use Rattle.rules.specs.declared.Refusal.{Refusal}
 use Rattle.rules.specs.declared.Refusal.TheVariants.{OutputShort}
-use Rattle.rules.specs.declared.Checked.{Checked}
-use Rattle.rules.specs.declared.Checked.TheVariants as checked
-use Rattle.rules.specs.declared.Verdict.{Verdict}
-use Rattle.rules.specs.declared.Verdict.TheVariants.{Passes, Refused}
 use Rattle.rules.specs.Network.{links_of, ases_of, arcs_of}
 use Rattle.rules.specs.Checks.{base_limits, check_words}
 use Rattle.rules.specs.Entry.{and_then, fault_of_links, fault_of_destination, fault_of_output, filled}
@@ -63,11 +61,11 @@ module _ (ws : List ℕ) (d : ℕ) where
   -- Refusals ----------------------------------------------------------------------------------------------------------------
 
   -- the lines are refused, and nothing is written
-  lines_refused : (bytes : List ℕ) (why : Refusal) → fault_of_lines ws d (length bytes) ≡ Refused why → {r : ℕ} → r ≡ packed_no why
+  lines_refused : (bytes : List ℕ) (why : Refusal) → fault_of_lines ws d (length bytes) ≡ Err why → {r : ℕ} → r ≡ packed_no why
       → (r ≡ lines_reply ws d (length bytes)) × (bytes ≡ final_lines ws d bytes)
   lines_refused bytes why e p = (p ∙ rw e, rw e)
 
-  pub no_lines : (bytes : List ℕ) {c : Checked} → c ≡ check_words base_limits ws → {why : Refusal} → c ≡ checked.Refused why → {r : ℕ} → r ≡ packed_no why
+  pub no_lines : (bytes : List ℕ) {c : Result ℕ Refusal} → c ≡ check_words base_limits ws → {why : Refusal} → c ≡ Err why → {r : ℕ} → r ≡ packed_no why
       → (r ≡ lines_reply ws d (length bytes)) × (bytes ≡ final_lines ws d bytes)
   unfolding fault_of_lines
   no_lines bytes check {why} refuses = lines_refused bytes why (rw (bad_links ws check refuses))
@@ -76,17 +74,17 @@ module _ (ws : List ℕ) (d : ℕ) where
     verdict : {v : Verdict} → r ≡ v → fault_of_table base_limits ws d 2048 room_words ≡ v
     verdict e = ap (λ (k : ℕ). fault_of_table base_limits ws d k room_words) (sym long) ∙ sym s.replies ∙ e
 
-    pub no_table_Placed : (why : Refusal) → r ≡ Refused why → Placed why
+    pub no_table_Placed : (why : Refusal) → r ≡ Err why → Placed why
     no_table_Placed why e = Fits-Placed (verdict e) (tabled_Fits ws d 2048)
 
-    pub no_table : (bytes : List ℕ) (why : Refusal) → r ≡ Refused why → {reply : ℕ} → reply ≡ packed_no why
+    pub no_table : (bytes : List ℕ) (why : Refusal) → r ≡ Err why → {reply : ℕ} → reply ≡ packed_no why
         → (reply ≡ lines_reply ws d (length bytes)) × (bytes ≡ final_lines ws d bytes)
     no_table bytes why e =
         lines_refused bytes why (lines_second (length bytes) ∙ ap (λ (v : Verdict). and_then v (fault_of_output (10 + 11 * length us) (length bytes))) (verdict e))
 
     -- The table -------------------------------------------------------------------------------------------------------------
 
-    module _ {n : ℕ} (links : check_words base_limits ws ≡ checked.Accepted n) (passes : r ≡ Passes) where
+    module _ {n : ℕ} (links : check_words base_limits ws ≡ Ok n) (passes : r ≡ Ok tt) where
       abbrev S : Routing
       S = stable_of (arcs_of (links_of ws)) d
 

@@ -4,11 +4,9 @@ use Prim.Native.Nat.{ℕ, ◌*◌}
 use mathlib.Core.Path.{◌≡◌, sym, ◌∙◌, ap, subst}
 use mathlib.Core.List.{List}
 use lib.ListN.{length, replicate}
+use Rattle.rules.specs.Replies.{Verdict}
+use Rattle.std.specs.Prelude.{Err, Ok, Result}
 use Rattle.rules.specs.declared.Refusal.{Refusal}
-use Rattle.rules.specs.declared.Checked.{Checked}
-use Rattle.rules.specs.declared.Checked.TheVariants as checked
-use Rattle.rules.specs.declared.Verdict.{Verdict}
-use Rattle.rules.specs.declared.Verdict.TheVariants.{Passes, Refused}
 use Rattle.rules.specs.Network.{links_of, ases_of}
 use Rattle.rules.specs.Checks.{base_limits, check_words}
 use Rattle.rules.specs.Entry.{and_then, verdict_of, fault_of_links, fault_of_destination, fault_of_output}
@@ -28,8 +26,8 @@ module _ (ws : List ℕ) where
 
   -- Links that are refused, or accepted ---------------------------------------------------------------------------------------
 
-  module _ {c : Checked} (check : c ≡ check_words base_limits ws) {why : Refusal} (refuses : c ≡ checked.Refused why) where
-    pub bad_links : fault_of_links base_limits ws ≡ Refused why
+  module _ {c : Result ℕ Refusal} (check : c ≡ check_words base_limits ws) {why : Refusal} (refuses : c ≡ Err why) where
+    pub bad_links : fault_of_links base_limits ws ≡ Err why
     bad_links = ap verdict_of (sym check ∙ refuses)
 
     pub bad_links_Placed : Placed why
@@ -47,7 +45,7 @@ module _ (ws : List ℕ) where
     unfolding fault_of_page
     no_page d table p = record { replies = p ∙ rw bad_links; tabled = rw bad_links }
 
-  module _ {n : ℕ} (e : check_words base_limits ws ≡ checked.Accepted n) where
+  module _ {n : ℕ} (e : check_words base_limits ws ≡ Ok n) where
     pub accepted_ases : AcceptedLinks base_limits (links_of ws) n
     accepted_ases = (check_words-Accepted base_limits ws n e).1
 
@@ -71,10 +69,10 @@ module _ (ws : List ℕ) where
       tabled = subst (λ (f : Verdict). TableAfter f (links_of ws) d old table) same_fault s.tabled;
     }
 
-    pub page_passes : {n : ℕ} → check_words base_limits ws ≡ checked.Accepted n → v ≡ Passes → PageTabled base_limits ws d old (4 * n) table
+    pub page_passes : {n : ℕ} → check_words base_limits ws ≡ Ok n → v ≡ Ok tt → PageTabled base_limits ws d old (4 * n) table
     page_passes a e = paged (ap (λ (k : ℕ). 4 * k) (accepted_ases a).count ∙ rw e)
 
-    module _ {why : Refusal} (e : v ≡ Refused why) where
+    module _ {why : Refusal} (e : v ≡ Err why) where
       pub page_Placed : Placed why
       page_Placed = Fits-Placed (sym s.replies ∙ e) (tabled_Fits ws d (length old))
 

@@ -8,13 +8,12 @@
 --   fault_of_run, run_reply, final_table  a run: 1 of text, choices and deliveries; lines; as the machine in a room that suffices
 --   check_reply        the number of ASes: 1; 2 to 6
 --   fault_of_page, PageTabled  the stable table in a room that suffices, the number of its words: 1; 2 to 6; 7; 8
-use Rattle.std.specs.Prelude.{ℕ, ◌+◌, ◌*◌, ◌≡◌, Bool, true, false, ◌&&◌, List, leb, length}
+use Rattle.rules.specs.Replies.{Verdict}
+use Rattle.std.specs.Prelude.{ℕ, ◌+◌, ◌*◌, ◌≡◌, Bool, true, false, ◌&&◌, List, leb, length, Err, Ok}
 use Rattle.rules.specs.declared.Limits.{Limits}
 use Rattle.rules.specs.declared.Link.{Link}
 use Rattle.rules.specs.declared.Refusal.{Refusal}
 use Rattle.rules.specs.declared.Refusal.TheVariants.{OverLimit}
-use Rattle.rules.specs.declared.Verdict.{Verdict}
-use Rattle.rules.specs.declared.Verdict.TheVariants.{Passes, Refused}
 use Rattle.rules.specs.Refusals.{refusal_number, refusal_place}
 use Rattle.rules.specs.Network.{links_of, ases_of, arcs_of}
 use Rattle.rules.specs.Entry.{and_then, unless, fault_of_links, fault_of_destination, fault_of_output, filled}
@@ -33,8 +32,8 @@ abbrev pub packed_no : Refusal → ℕ
 packed_no r = 72057594037927936 * refusal_number r + 268435456 * refusal_place r
 
 abbrev pub packed : Verdict → ℕ → ℕ
-packed Passes value = value
-packed (Refused r) value = packed_no r
+packed (Ok tt) value = value
+packed (Err r) value = packed_no r
 
 -- text to sheet
 unfoldable pub fault_of_sheet : Limits → List ℕ → ℕ → ℕ → Verdict

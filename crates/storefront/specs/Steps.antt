@@ -8,10 +8,9 @@
 --   found_reply, judged_reply, ran_reply  what the three entries on link words reply, packed
 --   Stably ws d old r table   the reply r of the stable table, and the table that was `old`
 --   fault_of_lines ws d room, lines_reply, final_lines  a sheet from link words: 1; 2 to 6; 7; 8
-use Rattle.std.specs.Prelude.{ℕ, ◌+◌, ◌*◌, ◌≤◌, ◌<◌, ◌≡◌, List, length, take}
+use Rattle.rules.specs.Replies.{Verdict}
+use Rattle.std.specs.Prelude.{ℕ, ◌+◌, ◌*◌, ◌≤◌, ◌<◌, ◌≡◌, List, length, take, Err}
 use Rattle.rules.specs.declared.Refusal.{Refusal}
-use Rattle.rules.specs.declared.Verdict.{Verdict}
-use Rattle.rules.specs.declared.Verdict.TheVariants.{Refused}
 use Rattle.rules.specs.Refusals.{refusal_place}
 use Rattle.rules.specs.Network.{links_of, ases_of, arcs_of}
 use Rattle.rules.specs.Checks.{base_limits}
@@ -37,7 +36,7 @@ pub record Given (t ws : List ℕ) : Type 0 where
 
 pub record Unread (t : List ℕ) (n : ℕ) : Type 0 where
   pub why : Refusal
-  pub fault : fault_of_network base_limits t ≡ Refused why
+  pub fault : fault_of_network base_limits t ≡ Err why
   pub packs : n ≡ packed_no why
 
 pub record ReadText (t : List ℕ) (r : Reading) (ws : List ℕ) : Type 0 where

@@ -5,7 +5,7 @@ ghost use Rattle.storefront.specs.Steps.{ReadText};
 use super::pack;
 use linktext::reading;
 use network::WORDS_PER_LINK;
-use rules::{Checked, Limits};
+use rules::Limits;
 
 // What a text comes to: its refusal, packed, 0 for none; and where its links' words end.
 #[derive(Clone, Copy)]
@@ -20,11 +20,11 @@ pub fn read(text: &[u8], words: &mut [u32]) -> Reading
     ensures { ReadText text.now result words.new }
 {
     match reading::read_scratch(text, Limits::BASE, words) {
-        Checked::Accepted(m) => Reading {
+        Ok(m) => Reading {
             refusal: 0,
             end: WORDS_PER_LINK * m,
         },
-        Checked::Refused(why) => Reading {
+        Err(why) => Reading {
             refusal: pack::refused(why),
             end: 0,
         },

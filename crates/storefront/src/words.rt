@@ -1,6 +1,5 @@
 // Check, judge, findings and machine on link words, each in a room of its own where it takes one, with the reply packed.
-ghost use Rattle.std.specs.Prelude.{◌≡◌, length};
-ghost use Rattle.rules.specs.declared.Checked.TheVariants.{Accepted};
+ghost use Rattle.std.specs.Prelude.{◌≡◌, length, Ok};
 ghost use Rattle.rules.specs.Checks.{base_limits, check_words};
 ghost use Rattle.machine.specs.Entries.{final_table};
 ghost use Rattle.storefront.specs.Page.{check_reply};
@@ -9,15 +8,14 @@ ghost use Rattle.storefront.specs.Steps.{room_words, found_reply, judged_reply, 
 use super::pack;
 use findings::Found;
 use machine::Ran;
-use rules::{Checked, Verdict};
 
 // The check of the links: the number of their ASes.
 pub fn check(words: &[u32]) -> u64
     ensures { result ≡ check_reply base_limits words.now }
 {
     match network::check_links(words) {
-        Checked::Accepted(n) => n as u64,
-        Checked::Refused(why) => pack::refused(why),
+        Ok(n) => n as u64,
+        Err(why) => pack::refused(why),
     }
 }
 
@@ -27,8 +25,8 @@ pub fn judge(words: &[u32], sheet: &[u8]) -> u64
 {
     let mut room = [0u32; 16384];
     match judge::judge_sheet(words, sheet, &mut room) {
-        Verdict::Passes => 0,
-        Verdict::Refused(why) => pack::refused(why),
+        Ok(()) => 0,
+        Err(why) => pack::refused(why),
     }
 }
 
@@ -37,20 +35,20 @@ pub fn find(words: &[u32]) -> u64
     ensures { result ≡ found_reply words.now }
 {
     match network::check_links(words) {
-        Checked::Accepted(n) => find_for(words, n),
-        Checked::Refused(fault) => pack::refused(fault),
+        Ok(n) => find_for(words, n),
+        Err(fault) => pack::refused(fault),
     }
 }
 
 // The same for accepted links with n ASes: the check is over when the room is there.
 fn find_for(words: &[u32], n: usize) -> u64
-    requires { check_words base_limits words.now ≡ Accepted n }
+    requires { check_words base_limits words.now ≡ Ok n }
     ensures { result ≡ found_reply words.now }
 {
     let mut room = [0u32; 16384];
     match findings::find_accepted(words, n, &mut room) {
-        Found::Found(ring, joined) => pack::found(ring, joined),
-        Found::Refused(why) => pack::refused(why),
+        Ok(Found { ring, joined }) => pack::found(ring, joined),
+        Err(why) => pack::refused(why),
     }
 }
 
@@ -61,7 +59,7 @@ pub fn run(words: &[u32], destination: u32, choices: &[u32], further: u32, table
 {
     let mut room = [0u32; 16384];
     match machine::run(words, destination, choices, further, table, &mut room) {
-        Ran::Ran(made, idle, quiet) => pack::counted(made, idle, quiet),
-        Ran::Refused(why) => pack::refused(why),
+        Ok(Ran { made, idle, quiet }) => pack::counted(made, idle, quiet),
+        Err(why) => pack::refused(why),
     }
 }

@@ -3,11 +3,10 @@
 --   fault_of_table     1; 2 to 6; 7; 8 (table, room)
 --   StableTable ls d ws   ws are the words of the stable table of the links ls to d
 --   TableAfter, final_room  the lent table and the lent room afterwards
-use Rattle.std.specs.Prelude.{ℕ, ◌*◌, ◌≡◌, List, ◌++◌, length, drop}
+use Rattle.rules.specs.Replies.{Verdict}
+use Rattle.std.specs.Prelude.{ℕ, ◌*◌, ◌≡◌, List, ◌++◌, length, drop, Err, Ok}
 use Rattle.rules.specs.declared.Link.{Link}
 use Rattle.rules.specs.declared.Limits.{Limits}
-use Rattle.rules.specs.declared.Verdict.{Verdict}
-use Rattle.rules.specs.declared.Verdict.TheVariants.{Passes, Refused}
 use Rattle.rules.specs.Network.{links_of, ases_of, arcs_of}
 use Rattle.rules.specs.Checks.{needed_room}
 use Rattle.rules.specs.Entry.{and_then, fault_of_links, fault_of_destination, fault_of_output, fault_of_room, cleared}
@@ -33,8 +32,8 @@ pub record Filled (ls : List Link) (d : ℕ) (old new : List ℕ) : Type 0 where
   pub words : new ≡ table ++ drop (length table) old
 
 abbrev pub TableAfter : Verdict → List Link → ℕ → List ℕ → List ℕ → Type 0
-TableAfter Passes ls d old new = Filled ls d old new
-TableAfter (Refused r) ls d old new = new ≡ old
+TableAfter (Ok tt) ls d old new = Filled ls d old new
+TableAfter (Err r) ls d old new = new ≡ old
 
 -- the whole promise: reply, table and room
 pub record Tabled (limits : Limits) (ws : List ℕ) (d : ℕ) (table room : List ℕ) (r : Verdict) (table' room' : List ℕ) : Type 0 where

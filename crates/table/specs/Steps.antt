@@ -11,14 +11,12 @@
 --   Filling            what the work on an accepted input asks
 --   Tried              what the guess leaves in the table and the room
 --   Agreed             what the choice leaves: every pair is due
-use Rattle.std.specs.Prelude.{ℕ, ◌*◌, ◌≤◌, ◌<◌, ◌≡◌, cond, List, ◌++◌, eqb, length, get_or, take}
+use Rattle.rules.specs.Replies.{Verdict}
+use Rattle.rules.specs.declared.Refusal.{Refusal}
+use Rattle.std.specs.Prelude.{ℕ, ◌*◌, ◌≤◌, ◌<◌, ◌≡◌, cond, List, ◌++◌, eqb, length, get_or, take, Err, Ok, Result}
 use Rattle.rules.specs.declared.TypeLength.{TypeLength}
 use Rattle.rules.specs.declared.Link.{Link}
 use Rattle.rules.specs.declared.Limits.{Limits}
-use Rattle.rules.specs.declared.Checked.{Checked}
-use Rattle.rules.specs.declared.Checked.TheVariants as checked
-use Rattle.rules.specs.declared.Verdict.{Verdict}
-use Rattle.rules.specs.declared.Verdict.TheVariants.{Passes, Refused}
 use Rattle.rules.specs.Pairs.{origin_of}
 use Rattle.rules.specs.Lists.{In}
 use Rattle.rules.specs.Network.{links_of, ases_of}
@@ -56,9 +54,9 @@ pub record Hopped (d : ℕ) (b : List ℕ) (n : ℕ) (t u : List ℕ) : Type 0 w
 
 -- The look at the input ----------------------------------------------------------------------------------------------------
 
-abbrev pub checked_of : ℕ → Verdict → Checked
-checked_of n Passes = checked.Accepted n
-checked_of n (Refused r) = checked.Refused r
+abbrev pub checked_of : ℕ → Verdict → Result ℕ Refusal
+checked_of n (Ok tt) = Ok n
+checked_of n (Err r) = Err r
 
 -- so many links, whose ASes are the first n words of list, fit a word
 pub record Sized (links : ℕ) (list : List ℕ) (n : ℕ) : Type 0 where
@@ -68,9 +66,9 @@ pub record Sized (links : ℕ) (list : List ℕ) (n : ℕ) : Type 0 where
   pub few_links : links < 4294967296
 
 -- its reply r to link words ws, with room for a table and working room of so many words; list is left with the ASes
-pub record Looked (limits : Limits) (ws : List ℕ) (d : ℕ) (list : List ℕ) (table room : ℕ) (r : Checked) : Type 0 where
+pub record Looked (limits : Limits) (ws : List ℕ) (d : ℕ) (list : List ℕ) (table room : ℕ) (r : Result ℕ Refusal) : Type 0 where
   pub replies : r ≡ checked_of (length (ases_of (links_of ws))) (fault_of_table limits ws d table room)
-  pub listed : fault_of_links limits ws ≡ Passes → take (length (ases_of (links_of ws))) list ≡ ases_of (links_of ws)
+  pub listed : fault_of_links limits ws ≡ Ok tt → take (length (ases_of (links_of ws))) list ≡ ases_of (links_of ws)
 
 -- The work on an accepted input --------------------------------------------------------------------------------------------
 

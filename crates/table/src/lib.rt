@@ -1,16 +1,15 @@
 // The stable table for one destination: one table, the only one in which every line is the best offer.
 #![tactic(auto, unfolding(rules::specs::Network::links_of))]
 
-ghost use Rattle.std.specs.Prelude.{◌*◌, ◌≤◌, ◌≡◌, length, replicate};
+ghost use Rattle.std.specs.Prelude.{◌*◌, ◌≤◌, ◌≡◌, length, replicate, Ok};
 ghost use Rattle.rules.specs.Network.{links_of};
-ghost use Rattle.rules.specs.declared.Verdict.TheVariants.{Passes};
 ghost use Rattle.rules.specs.Checks.{base_limits};
 ghost use Rattle.rules.specs.Entry.{fault_of_links};
 ghost use Rattle.table.specs.Entries.{Filled, Tabled};
 ghost use Rattle.offers.specs.Steps.{Placed};
 ghost use Rattle.table.specs.Steps.{Filling, Tried, Agreed};
 
-use rules::{Checked, Verdict};
+use rules::Refusal;
 
 mod due;
 mod hops;
@@ -100,26 +99,26 @@ pub fn accepted_table(
     destination: u32,
     table: &mut [u32],
     room: &mut [u32],
-) -> Verdict
-    requires { fault_of_links base_limits words.now ≡ Passes }
+) -> Result<(), Refusal>
+    requires { fault_of_links base_limits words.now ≡ Ok tt }
     ensures { Tabled base_limits words.now destination table.old room.old result table.new room.new }
 {
     let mut ases = [0u32; 512];
     let looked = look::look(words, destination, &mut ases, table.len(), room.len());
-    let Checked::Accepted(n) = looked else {
+    let Ok(n) = looked else {
         return look::refused(looked);
     };
     let mut best = [0u32; 2048];
     fill(words, destination, &ases, n, table, room, &mut best);
-    Verdict::Passes
+    Ok(())
 }
 
 // The stable table to the destination, four words per AS, for a list of link words, with working room; or the first refusal of 1 to 8.
-pub fn stable_table(words: &[u32], destination: u32, table: &mut [u32], room: &mut [u32]) -> Verdict
+pub fn stable_table(words: &[u32], destination: u32, table: &mut [u32], room: &mut [u32]) -> Result<(), Refusal>
     ensures { Tabled base_limits words.now destination table.old room.old result table.new room.new }
 {
     let checked = network::check_links(words);
-    let Checked::Accepted(_) = checked else {
+    let Ok(_) = checked else {
         return look::refused(checked);
     };
     accepted_table(words, destination, table, room)

@@ -1,21 +1,20 @@
 // The look at the input after its links: refusals 7 and 8, in order, before a lent word is written.
-ghost use Rattle.std.specs.Prelude.{◌*◌, ◌/◌, ◌≤◌, ◌<◌, ◌≡◌, length, take};
+ghost use Rattle.std.specs.Prelude.{◌*◌, ◌/◌, ◌≤◌, ◌<◌, ◌≡◌, length, take, Ok};
 ghost use Rattle.rules.specs.Checks.{base_limits, needed_room};
-ghost use Rattle.rules.specs.declared.Verdict.TheVariants.{Passes};
 ghost use Rattle.rules.specs.Entry.{and_then, verdict_of, fault_of_links, fault_of_destination, fault_of_output, fault_of_room};
 ghost use Rattle.table.specs.Steps.{checked_of, Sized, Looked};
 
-use network::{Place, WORDS_PER_LINK};
+use network::WORDS_PER_LINK;
 use offers::WORDS_PER_ENTRY;
-use rules::{Checked, Refusal, Verdict};
+use rules::Refusal;
 
 // A refused check as a verdict.
-pub fn refused(checked: Checked) -> Verdict
+pub fn refused(checked: Result<usize, Refusal>) -> Result<(), Refusal>
     ensures { result ≡ verdict_of checked }
 {
     match checked {
-        Checked::Accepted(_) => Verdict::Passes,
-        Checked::Refused(refusal) => Verdict::Refused(refusal),
+        Ok(_) => Ok(()),
+        Err(refusal) => Err(refusal),
     }
 }
 
@@ -35,25 +34,25 @@ fn look_further(
     n: usize,
     table: usize,
     room: usize,
-) -> Checked
+) -> Result<usize, Refusal>
     requires { Sized links ases.now n }
     ensures { result ≡ checked_of n (and_then (fault_of_destination destination (take n ases.now)) (and_then (fault_of_output (4 * n) table) (fault_of_room (needed_room links n) room))) }
 {
-    let Place::At(_) = network::place_of(ases, n, destination) else {
-        return Checked::Refused(Refusal::NoDestination);
+    let Some(_) = network::place_of(ases, n, destination) else {
+        return Err(Refusal::NoDestination);
     };
     if table < table_need(n) {
-        return Checked::Refused(Refusal::OutputShort);
+        return Err(Refusal::OutputShort);
     }
     if room < network::room_need(links, n) {
-        return Checked::Refused(Refusal::RoomShort);
+        return Err(Refusal::RoomShort);
     }
-    Checked::Accepted(n)
+    Ok(n)
 }
 
 // Refusals 7 and 8 of accepted links. Their ASes are left in the list that is lent for them.
-pub fn look(words: &[u32], destination: u32, ases: &mut [u32], table: usize, room: usize) -> Checked
-    requires { (base_limits.ases ≤ length ases.old) × (fault_of_links base_limits words.now ≡ Passes) }
+pub fn look(words: &[u32], destination: u32, ases: &mut [u32], table: usize, room: usize) -> Result<usize, Refusal>
+    requires { (base_limits.ases ≤ length ases.old) × (fault_of_links base_limits words.now ≡ Ok tt) }
     ensures { Looked base_limits words.now destination ases.new table room result }
 {
     let n = network::list_ases(words, ases);

@@ -3,7 +3,7 @@
 
 use findings::Found;
 use machine::Ran;
-use rules::{Checked, Link, Refusal, Verdict};
+use rules::{Link, Refusal};
 use std::io;
 
 // Network A: 10|20|-1, 20|30|-1, 30|40|-1, 10|40|0, 10|50|-1.
@@ -62,8 +62,8 @@ fn say_table(rt: &impl Print, words: &[u32], d: u32) -> io::Result<()> {
     let mut room = [0u32; 128];
     let reply = table::stable_table(words, d, &mut table, &mut room);
     match reply {
-        Verdict::Passes => say_lines(rt, &table)?,
-        Verdict::Refused(why) => say_number(rt, why.number())?,
+        Ok(()) => say_lines(rt, &table)?,
+        Err(why) => say_number(rt, why.number())?,
     }
     println!(rt; "")
 }
@@ -77,11 +77,11 @@ fn say_answer(rt: &impl Print, word: &str, yes: bool) -> io::Result<()> {
 fn say_findings(rt: &impl Print, words: &[u32]) -> io::Result<()> {
     let mut room = [0u32; 128];
     match findings::find(words, &mut room) {
-        Found::Found(ring, joined) => {
+        Ok(Found { ring, joined }) => {
             say_answer(rt, " ring", ring)?;
             say_answer(rt, " joined", joined)?;
         }
-        Found::Refused(why) => say_number(rt, why.number())?,
+        Err(why) => say_number(rt, why.number())?,
     }
     println!(rt; "")
 }
@@ -90,8 +90,8 @@ fn say_findings(rt: &impl Print, words: &[u32]) -> io::Result<()> {
 fn say_judged(rt: &impl Print, sheet: &[u8; 65]) -> io::Result<()> {
     let mut room = [0u32; 80];
     match judge::judge_sheet(&NETWORK_A, sheet, &mut room) {
-        Verdict::Passes => say(rt, " passes")?,
-        Verdict::Refused(why) => say_refused(rt, why)?,
+        Ok(()) => say(rt, " passes")?,
+        Err(why) => say_refused(rt, why)?,
     }
     println!(rt; "")
 }
@@ -115,12 +115,12 @@ fn say_run(rt: &impl Print, choices: &[u32], further: u32) -> io::Result<()> {
     let mut table = [0u32; 20];
     let mut room = [0u32; 80];
     match machine::run(&NETWORK_A, 40, choices, further, &mut table, &mut room) {
-        Ran::Ran(made, idle, quiet) => {
+        Ok(Ran { made, idle, quiet }) => {
             say_lines(rt, &table)?;
             print!(rt; "  made {made} idle {idle}")?;
             say_answer(rt, " quiet", quiet)?;
         }
-        Ran::Refused(why) => say_number(rt, why.number())?,
+        Err(why) => say_number(rt, why.number())?,
     }
     println!(rt; "")
 }
@@ -172,8 +172,8 @@ fn records_a(relation: u32) -> [Link; 16] {
 // The check of the first five records: the number of their ASes.
 fn say_checked(rt: &impl Print, links: [Link; 16]) -> io::Result<()> {
     match records::arrays::check_links(links, 5) {
-        Checked::Accepted(n) => print!(rt; " ases {n}")?,
-        Checked::Refused(why) => say_refused(rt, why)?,
+        Ok(n) => print!(rt; " ases {n}")?,
+        Err(why) => say_refused(rt, why)?,
     }
     println!(rt; "")
 }
@@ -184,8 +184,8 @@ fn say_loaded(rt: &impl Print, links: [Link; 16]) -> io::Result<()> {
     let mut room = [0u32; 80];
     let w = records::arrays::load(links, 5);
     match records::loaded::stable_table(w, 40, &mut table, &mut room) {
-        Verdict::Passes => say_lines(rt, &table)?,
-        Verdict::Refused(why) => say_refused(rt, why)?,
+        Ok(()) => say_lines(rt, &table)?,
+        Err(why) => say_refused(rt, why)?,
     }
     println!(rt; "")
 }

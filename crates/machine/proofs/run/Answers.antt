@@ -11,12 +11,12 @@ returns-then-further-gt-MOST_DELIVERIES c = many_deliveries _ _ _ _ _ _ c.if-cho
 pub look_at_network-requires : goal.look_at_network-requires
 look_at_network-requires c =
     may_look c.args.words.now c.args.destination c.args.choices.now c.args.further c.args.table.now c.args.room.now
-    c.if-choices-gt-MOST_CHOICES.false c.if-further-gt-MOST_DELIVERIES.false c.check_links.ensures c.in-Accepted.is
+    c.if-choices-gt-MOST_CHOICES.false c.if-further-gt-MOST_DELIVERIES.false c.check_links.ensures c.in-Ok.is
 
-pub returns-in-Refused : goal.returns-in-Refused
-returns-in-Refused c = bad_links _ _ _ _ _ _ c.if-choices-gt-MOST_CHOICES.false c.if-further-gt-MOST_DELIVERIES.false c.check_links.ensures c.in-Refused.is
+pub returns-in-Err : goal.returns-in-Err
+returns-in-Err c = bad_links _ _ _ _ _ _ c.if-choices-gt-MOST_CHOICES.false c.if-further-gt-MOST_DELIVERIES.false c.check_links.ensures c.in-Err.is
 
-pub returns-in-Accepted : goal.returns-in-Accepted
-returns-in-Accepted c =
-    good_links _ _ _ _ _ _ c.if-choices-gt-MOST_CHOICES.false c.if-further-gt-MOST_DELIVERIES.false c.check_links.ensures c.in-Accepted.is
+pub returns-in-Ok : goal.returns-in-Ok
+returns-in-Ok c =
+    good_links _ _ _ _ _ _ c.if-choices-gt-MOST_CHOICES.false c.if-further-gt-MOST_DELIVERIES.false c.check_links.ensures c.in-Ok.is
     c.look_at_network.ensures

@@ -3,13 +3,13 @@ use Rattle.report.proofs.ReportLaws.{refused_place, refused_report, told_few, to
 use Rattle.report.proofs.report.Goals as goal
 
 pub put_refusal-requires : goal.put_refusal-requires
-put_refusal-requires c = refused_place c.args.input.now c.answer.ensures c.in-Refused.is
+put_refusal-requires c = refused_place c.args.input.now c.answer.ensures c.in-Err.is
 
 pub put_report-requires : goal.put_report-requires
 put_report-requires c = told_few c.args.input.now c.answer.ensures c.in-Tells.is
 
-pub returns-in-Refused : goal.returns-in-Refused
-returns-in-Refused c = refused_report c.args.input.now c.answer.ensures c.in-Refused.is c.put_refusal.ensures
+pub returns-in-Err : goal.returns-in-Err
+returns-in-Err c = refused_report c.args.input.now c.answer.ensures c.in-Err.is c.put_refusal.ensures
 
 pub returns-in-Tells : goal.returns-in-Tells
 returns-in-Tells c = told_Reported c.args.input.now c.answer.ensures c.in-Tells.is c.put_report.ensures

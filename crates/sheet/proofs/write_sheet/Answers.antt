@@ -10,7 +10,7 @@ use Rattle.sheet.proofs.write_sheet.Goals.{After-list_ases-n, In-Accepted}
 
 few : (c : In-Accepted) → length (ases_of (links_of c.args.words.now)) ≤ 512
 few c =
-    let links = (check_words-Accepted base_limits _ _ (sym c.check_links-checked.ensures ∙ c.in-Accepted.is)).1 in
+    let links = (check_words-Accepted base_limits _ _ (sym c.check_links-checked.ensures ∙ c.in-Ok.is)).1 in
     omega (arith, links.count, links.few_ases)
 
 listed : (c : After-list_ases-n)
@@ -39,10 +39,10 @@ pub returns-clause-reply : goal.returns-clause-reply
 returns-clause-reply c =
     (let A = c.args in
     write_accepted base_limits 511 A.words.now A.destination A.table.now A.bytes.now c.write_for.new.bytes _ _
-    (sym c.check_links-checked.ensures ∙ c.in-Accepted.is) (rw (listed (goal.at.returns-clause-reply c).After-list_ases-n) at c.write_for.ensures)).0
+    (sym c.check_links-checked.ensures ∙ c.in-Ok.is) (rw (listed (goal.at.returns-clause-reply c).After-list_ases-n) at c.write_for.ensures)).0
 
 pub returns-clause-bytes : goal.returns-clause-bytes
 returns-clause-bytes c =
     (let A = c.args in
     write_accepted base_limits 511 A.words.now A.destination A.table.now A.bytes.now c.write_for.new.bytes _ _
-    (sym c.check_links-checked.ensures ∙ c.in-Accepted.is) (rw (listed (goal.at.returns-clause-bytes c).After-list_ases-n) at c.write_for.ensures)).1
+    (sym c.check_links-checked.ensures ∙ c.in-Ok.is) (rw (listed (goal.at.returns-clause-bytes c).After-list_ases-n) at c.write_for.ensures)).1

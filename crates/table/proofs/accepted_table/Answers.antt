@@ -6,5 +6,5 @@ use Rattle.table.proofs.accepted_table.Goals as goal
 
 pub fill-requires : goal.fill-requires
 fill-requires c =
-    let f = looked_Filling base_limits _ _ _ _ _ _ c.look-looked.ensures (omega arith) c.in-Accepted.is in
+    let f = looked_Filling base_limits _ _ _ _ _ _ c.look-looked.ensures (omega arith) c.in-Ok.is in
     (f.0, omega (arith, f.1))

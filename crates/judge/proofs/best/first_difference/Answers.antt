@@ -1,14 +1,14 @@
+use Rattle.std.specs.Prelude.{Err}
 use Rattle.std.proofs.Common.{◌+◌, ◌≡◌, sym, ◌∙◌, cond, arith}
 use Rattle.judge.proofs.DifferLaws.{differ_at, differ_next, differ_end}
 use Rattle.rules.specs.declared.Refusal.TheVariants.{NotBest}
-use Rattle.rules.specs.declared.Verdict.TheVariants.{Refused}
 use Rattle.judge.proofs.best.first_difference.Goals as goal
 use Rattle.judge.proofs.best.first_difference.Goals.{After-same_line}
 
 turn : (c : After-same_line)
     → (let l = c.loop-i in
     let A = c.args in
-    differ_at A.told.now A.best.now l.i ≡ cond c.same_line.result (differ_at A.told.now A.best.now (l.i + 1)) (Refused (NotBest l.i)))
+    differ_at A.told.now A.best.now l.i ≡ cond c.same_line.result (differ_at A.told.now A.best.now (l.i + 1)) (Err (NotBest l.i)))
 turn c =
     let l = c.loop-i in
     let A = c.args in

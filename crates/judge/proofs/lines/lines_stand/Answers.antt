@@ -32,10 +32,10 @@ returns-in_default-clause-reply c = stopped _ _ _ c.in_default.is ∙ whole (goa
 pub returns-then-count-ases-clause-reply : goal.returns-then-count-ases-clause-reply
 returns-then-count-ases-clause-reply c =
     let same = sym c.line_count-count.ensures ∙ c.if-count-ases.true in
-    rw (c.in-Passes.is, eq-eqb _ _ same) at (whole (goal.at.returns-then-count-ases-clause-reply c).After-lines_fault-fault)
+    rw (c.in-Ok.is, eq-eqb _ _ same) at (whole (goal.at.returns-then-count-ases-clause-reply c).After-lines_fault-fault)
 
 pub returns-clause-reply : goal.returns-clause-reply
 returns-clause-reply c =
     let A = c.args in
     let apart : count_of_lines A.sheet.now ≢ length A.ases.now = (λ q. c.if-count-ases.false (c.line_count-count.ensures ∙ q)) in
-    rw (c.in-Passes.is, ne_eqb _ _ apart) at (whole (goal.at.returns-clause-reply c).After-lines_fault-fault)
+    rw (c.in-Ok.is, ne_eqb _ _ apart) at (whole (goal.at.returns-clause-reply c).After-lines_fault-fault)

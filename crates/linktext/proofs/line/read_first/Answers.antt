@@ -14,7 +14,7 @@ pub overflow_add-next : goal.overflow_add-next
 overflow_add-next c = omega (arith, ((cut c.args.line.now 0 c.find-end.result (omega arith) c.find-end.ensures)).within)
 
 pub returns-then-end-line : goal.returns-then-end-line
-returns-then-end-line c = first_goes ((cut c.args.line.now 0 c.find-end.result (omega arith) c.find-end.ensures)) c.read_number-number.ensures c.read_second.ensures c.in-Value.is c.if-end-line.true
+returns-then-end-line c = first_goes ((cut c.args.line.now 0 c.find-end.result (omega arith) c.find-end.ensures)) c.read_number-number.ensures c.read_second.ensures c.in-Ok.is c.if-end-line.true
 
 pub returns : goal.returns
-returns c = first_ends ((cut c.args.line.now 0 c.find-end.result (omega arith) c.find-end.ensures)) c.read_number-number.ensures c.in-Value.is c.if-end-line.false
+returns c = first_ends ((cut c.args.line.now 0 c.find-end.result (omega arith) c.find-end.ensures)) c.read_number-number.ensures c.in-Ok.is c.if-end-line.false

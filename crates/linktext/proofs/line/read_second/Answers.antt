@@ -14,9 +14,9 @@ returns-in_default c =
 pub returns-then-end-line : goal.returns-then-end-line
 returns-then-end-line c =
     let a = c.args.a in
-    second_goes a ((cut c.args.line.now c.args.from c.find-end.result c.requires c.find-end.ensures)) c.read_number-number.ensures c.read_third.ensures c.in-Value.is c.if-end-line.true
+    second_goes a ((cut c.args.line.now c.args.from c.find-end.result c.requires c.find-end.ensures)) c.read_number-number.ensures c.read_third.ensures c.in-Ok.is c.if-end-line.true
 
 pub returns : goal.returns
 returns c =
     let a = c.args.a in
-    second_ends a ((cut c.args.line.now c.args.from c.find-end.result c.requires c.find-end.ensures)) c.read_number-number.ensures c.in-Value.is c.if-end-line.false
+    second_ends a ((cut c.args.line.now c.args.from c.find-end.result c.requires c.find-end.ensures)) c.read_number-number.ensures c.in-Ok.is c.if-end-line.false

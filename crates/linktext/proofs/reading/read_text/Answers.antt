@@ -7,10 +7,10 @@ use Rattle.rules.specs.Checks.{base_limits}
 use Rattle.linktext.proofs.reading.read_text.Goals as goal
 
 pub hand_over-requires : goal.hand_over-requires
-hand_over-requires c = ((got (text_in base_limits c.args.text.now) _ _ c.read_scratch-read.result c.in-Accepted.n c.read_scratch-read.ensures c.in-Accepted.is)).room
+hand_over-requires c = ((got (text_in base_limits c.args.text.now) _ _ c.read_scratch-read.result c.in-Ok.n c.read_scratch-read.ensures c.in-Ok.is)).room
 
 pub returns-clause-words : goal.returns-clause-words
 unfolding read_reply final_words
 returns-clause-words c =
-    let g = (got (text_in base_limits c.args.text.now) _ _ c.read_scratch-read.result c.in-Accepted.n c.read_scratch-read.ensures c.in-Accepted.is) in
+    let g = (got (text_in base_limits c.args.text.now) _ _ c.read_scratch-read.result c.in-Ok.n c.read_scratch-read.ensures c.in-Ok.is) in
     c.hand_over.ensures.words ∙ rw (g.whole, g.words)

@@ -6,4 +6,4 @@ pub returns-in_default : goal.returns-in_default
 returns-in_default c = absurd (somewhere c.requires c.place_of.ensures c.in_default.is)
 
 pub returns : goal.returns
-returns c = (at_place c.requires c.place_of.ensures c.in-At.is).1
+returns c = (at_place c.requires c.place_of.ensures c.in-Some.is).1

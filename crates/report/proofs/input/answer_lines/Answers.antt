@@ -24,4 +24,4 @@ returns c =
     let A = c.args in
     let f = c.find-end in
     let here : f.result ≡ place_of lf A.input.now = omega arith in
-    a_number A.input.now here c.read_number-number.ensures c.in-Value.is c.text_from-start.ensures c.answer_text.ensures
+    a_number A.input.now here c.read_number-number.ensures c.in-Ok.is c.text_from-start.ensures c.answer_text.ensures

@@ -1,9 +1,9 @@
 -- `table_fault`: the lines up to the shorter count, and then the length, are the whole check (`table_in_order`).
+use Rattle.rules.specs.Replies.{Verdict}
 use Rattle.std.proofs.Common.{◌*◌, ◌≡◌, sym, ap, ◌∙◌, eqb, length, rules}
 use Rattle.rules.proofs.VerdictLaws.{stopped}
 use Rattle.rules.specs.Entry.{and_then, unless}
 use Rattle.rules.specs.declared.Refusal.TheVariants.{CannotStand}
-use Rattle.rules.specs.declared.Verdict.{Verdict}
 use Rattle.sheet.proofs.StandingLaws.{table_in_order}
 use Rattle.sheet.specs.Entries.{fault_of_table}
 use Rattle.sheet.proofs.standing.table_fault.Goals as goal
@@ -25,5 +25,5 @@ returns-in_default c = stopped _ _ _ c.in_default.is ∙ whole (goal.at.returns-
 pub returns : goal.returns
 returns c =
     let w = whole (goal.at.returns c).After-lines_fault-fault in
-    let s = c.in-Passes.is in
+    let s = c.in-Ok.is in
     search (rules, w, s)

@@ -18,16 +18,16 @@ pub slice_bounds-write-end : goal.slice_bounds-write-end
 slice_bounds-write-end c = sym (length-take-le _ _ (room (goal.at.slice_bounds-write-end c).After-tabulate))
 
 pub refused-requires : goal.refused-requires
-refused-requires c = no_table_Placed _ _ refl c.tabulate.ensures _ c.in-Refused.is
+refused-requires c = no_table_Placed _ _ refl c.tabulate.ensures _ c.in-Err.is
 
-pub returns-in-Passes-clause-reply : goal.returns-in-Passes-clause-reply
-returns-in-Passes-clause-reply c = (sheet_made _ _ refl c.tabulate.ensures c.requires c.in-Passes.is c.args.sheet.now (c.write.ensures.reply, c.write.ensures.bytes)).0
+pub returns-in-Ok-clause-reply : goal.returns-in-Ok-clause-reply
+returns-in-Ok-clause-reply c = (sheet_made _ _ refl c.tabulate.ensures c.requires c.in-Ok.is c.args.sheet.now (c.write.ensures.reply, c.write.ensures.bytes)).0
 
-pub returns-in-Passes-clause-bytes : goal.returns-in-Passes-clause-bytes
-returns-in-Passes-clause-bytes c = (sheet_made _ _ refl c.tabulate.ensures c.requires c.in-Passes.is c.args.sheet.now (c.write.ensures.reply, c.write.ensures.bytes)).1
+pub returns-in-Ok-clause-bytes : goal.returns-in-Ok-clause-bytes
+returns-in-Ok-clause-bytes c = (sheet_made _ _ refl c.tabulate.ensures c.requires c.in-Ok.is c.args.sheet.now (c.write.ensures.reply, c.write.ensures.bytes)).1
 
-pub returns-in-Refused-clause-reply : goal.returns-in-Refused-clause-reply
-returns-in-Refused-clause-reply c = (no_table _ _ refl c.tabulate.ensures _ _ c.in-Refused.is c.refused.ensures).0
+pub returns-in-Err-clause-reply : goal.returns-in-Err-clause-reply
+returns-in-Err-clause-reply c = (no_table _ _ refl c.tabulate.ensures _ _ c.in-Err.is c.refused.ensures).0
 
-pub returns-in-Refused-clause-bytes : goal.returns-in-Refused-clause-bytes
-returns-in-Refused-clause-bytes c = (no_table _ _ refl c.tabulate.ensures _ _ c.in-Refused.is c.refused.ensures).1
+pub returns-in-Err-clause-bytes : goal.returns-in-Err-clause-bytes
+returns-in-Err-clause-bytes c = (no_table _ _ refl c.tabulate.ensures _ _ c.in-Err.is c.refused.ensures).1

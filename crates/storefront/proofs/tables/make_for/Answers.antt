@@ -7,10 +7,10 @@ pub overflow_mul-result : goal.overflow_mul-result
 overflow_mul-result c = omega (arith, (accepted_ases _ c.requires).few_ases)
 
 pub refused-requires : goal.refused-requires
-refused-requires c = page_Placed _ c.accepted_table.ensures c.in-Refused.is
+refused-requires c = page_Placed _ c.accepted_table.ensures c.in-Err.is
 
-pub returns-in-Passes : goal.returns-in-Passes
-returns-in-Passes c = page_passes _ c.accepted_table.ensures c.requires c.in-Passes.is
+pub returns-in-Ok : goal.returns-in-Ok
+returns-in-Ok c = page_passes _ c.accepted_table.ensures c.requires c.in-Ok.is
 
-pub returns-in-Refused : goal.returns-in-Refused
-returns-in-Refused c = page_refuses _ c.accepted_table.ensures c.in-Refused.is c.refused.ensures
+pub returns-in-Err : goal.returns-in-Err
+returns-in-Err c = page_refuses _ c.accepted_table.ensures c.in-Err.is c.refused.ensures

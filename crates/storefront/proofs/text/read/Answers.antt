@@ -4,13 +4,13 @@ use Rattle.storefront.proofs.ReadLaws.{read_links, unread_Placed, read_refused}
 use Rattle.storefront.proofs.text.read.Goals as goal
 
 pub overflow_mul-result : goal.overflow_mul-result
-overflow_mul-result c = omega (arith, (read_links _ _ _ c.read_scratch.ensures _ c.in-Accepted.is).within)
+overflow_mul-result c = omega (arith, (read_links _ _ _ c.read_scratch.ensures _ c.in-Ok.is).within)
 
 pub refused-requires : goal.refused-requires
-refused-requires c = unread_Placed _ _ _ c.read_scratch.ensures _ c.in-Refused.is
+refused-requires c = unread_Placed _ _ _ c.read_scratch.ensures _ c.in-Err.is
 
-pub returns-in-Accepted : goal.returns-in-Accepted
-returns-in-Accepted c = read_links _ _ _ c.read_scratch.ensures _ c.in-Accepted.is
+pub returns-in-Ok : goal.returns-in-Ok
+returns-in-Ok c = read_links _ _ _ c.read_scratch.ensures _ c.in-Ok.is
 
-pub returns-in-Refused : goal.returns-in-Refused
-returns-in-Refused c = read_refused _ _ _ c.read_scratch.ensures _ c.in-Refused.is _ c.refused.ensures
+pub returns-in-Err : goal.returns-in-Err
+returns-in-Err c = read_refused _ _ _ c.read_scratch.ensures _ c.in-Err.is _ c.refused.ensures

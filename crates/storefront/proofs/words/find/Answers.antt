@@ -4,7 +4,7 @@ use Rattle.storefront.proofs.TableLaws.{bad_links_Placed, find_refuses}
 use Rattle.storefront.proofs.words.find.Goals as goal
 
 pub refused-requires : goal.refused-requires
-refused-requires c = (bad_links_Placed _ c.check_links.ensures c.in-Refused.is)
+refused-requires c = (bad_links_Placed _ c.check_links.ensures c.in-Err.is)
 
-pub returns-in-Refused : goal.returns-in-Refused
-returns-in-Refused c = (c.refused.ensures ∙ find_refuses _ c.check_links.ensures c.in-Refused.is)
+pub returns-in-Err : goal.returns-in-Err
+returns-in-Err c = (c.refused.ensures ∙ find_refuses _ c.check_links.ensures c.in-Err.is)

@@ -4,10 +4,10 @@ use Rattle.storefront.proofs.WordLaws.{found_value, found_Placed, found_refused}
 use Rattle.storefront.proofs.words.find_for.Goals as goal
 
 pub refused-requires : goal.refused-requires
-refused-requires c = found_Placed _ c.find_accepted.ensures.value _ c.in-Refused.is
+refused-requires c = found_Placed _ c.find_accepted.ensures.value _ c.in-Err.is
 
-pub returns-in-Found : goal.returns-in-Found
-returns-in-Found c = c.found.ensures ∙ found_value _ c.find_accepted.ensures.value _ _ c.in-Found.is
+pub returns-in-Ok : goal.returns-in-Ok
+returns-in-Ok c = c.found.ensures ∙ found_value _ c.find_accepted.ensures.value _ _ c.in-Ok.is
 
-pub returns-in-Refused : goal.returns-in-Refused
-returns-in-Refused c = c.refused.ensures ∙ found_refused _ c.find_accepted.ensures.value _ c.in-Refused.is
+pub returns-in-Err : goal.returns-in-Err
+returns-in-Err c = c.refused.ensures ∙ found_refused _ c.find_accepted.ensures.value _ c.in-Err.is

@@ -4,13 +4,13 @@ use Rattle.storefront.proofs.WordLaws.{ran_few, ran_value, ran_Placed, ran_refus
 use Rattle.storefront.proofs.words.run.Goals as goal
 
 pub counted-requires : goal.counted-requires
-counted-requires c = ran_few _ _ _ _ _ c.run.ensures.replies _ _ _ c.in-Ran.is
+counted-requires c = ran_few _ _ _ _ _ c.run.ensures.replies _ _ _ c.in-Ok.is
 
 pub refused-requires : goal.refused-requires
-refused-requires c = ran_Placed _ _ _ _ _ c.run.ensures.replies _ c.in-Refused.is
+refused-requires c = ran_Placed _ _ _ _ _ c.run.ensures.replies _ c.in-Err.is
 
-pub returns-in-Ran-clause-reply : goal.returns-in-Ran-clause-reply
-returns-in-Ran-clause-reply c = c.counted.ensures ∙ ran_value _ _ _ _ _ c.run.ensures.replies _ _ _ c.in-Ran.is
+pub returns-in-Ok-clause-reply : goal.returns-in-Ok-clause-reply
+returns-in-Ok-clause-reply c = c.counted.ensures ∙ ran_value _ _ _ _ _ c.run.ensures.replies _ _ _ c.in-Ok.is
 
-pub returns-in-Refused-clause-reply : goal.returns-in-Refused-clause-reply
-returns-in-Refused-clause-reply c = c.refused.ensures ∙ ran_refused _ _ _ _ _ c.run.ensures.replies _ c.in-Refused.is
+pub returns-in-Err-clause-reply : goal.returns-in-Err-clause-reply
+returns-in-Err-clause-reply c = c.refused.ensures ∙ ran_refused _ _ _ _ _ c.run.ensures.replies _ c.in-Err.is

@@ -12,7 +12,7 @@ pub returns-then-table-table_need : goal.returns-then-table-table_need
 returns-then-table-table_need c =
     let short : c.args.table < 4 * c.args.n = omega (arith, c.table_need.ensures) in
     simp (
-      found c.args.ases.now c.args.n c.args.destination _ c.requires.within c.place_of.ensures c.in-At.is,
+      found c.args.ases.now c.args.n c.args.destination _ c.requires.within c.place_of.ensures c.in-Some.is,
       lt-leb _ _ short,
     )
 
@@ -21,7 +21,7 @@ returns-then-room-room_need c =
     let long : 4 * c.args.n ≤ c.args.table = omega (arith, c.table_need.ensures) in
     let short : c.args.room < needed_room c.args.links c.args.n = omega (arith, c.room_need.ensures) in
     simp (
-      found c.args.ases.now c.args.n c.args.destination _ c.requires.within c.place_of.ensures c.in-At.is,
+      found c.args.ases.now c.args.n c.args.destination _ c.requires.within c.place_of.ensures c.in-Some.is,
       le-leb _ _ long,
       lt-leb _ _ short,
     )
@@ -31,7 +31,7 @@ returns c =
     let long : 4 * c.args.n ≤ c.args.table = omega (arith, c.table_need.ensures) in
     let enough : needed_room c.args.links c.args.n ≤ c.args.room = omega (arith, c.room_need.ensures) in
     simp (
-      found c.args.ases.now c.args.n c.args.destination _ c.requires.within c.place_of.ensures c.in-At.is,
+      found c.args.ases.now c.args.n c.args.destination _ c.requires.within c.place_of.ensures c.in-Some.is,
       le-leb _ _ long,
       le-leb _ _ enough,
     )
