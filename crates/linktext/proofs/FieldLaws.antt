@@ -21,7 +21,6 @@ use Rattle.linktext.specs.declared.line.Relation.{Relation}
 use Rattle.linktext.specs.declared.line.Relation.TheVariants.{Is, Unknown}
 use Rattle.linktext.specs.Lines.{hash, before_bar, numeral_of, Related, unrelated, related, relation_of, read_from_third, read_from_second, read_from_first, read_of_line}
 use Rattle.linktext.specs.Fields.{relation_read, fault_of_number}
-use Rattle.linktext.specs.contracts.Numeral.{the_type}
 use Rattle.linktext.proofs.PlaceLaws.{Cut}
 
 unread : (x : Related) → Unknown ≡ relation_read x → x ≡ unrelated
@@ -32,22 +31,17 @@ read : (x : Related) (r : ℕ) → Is r ≡ relation_read x → x ≡ related r
 read unrelated r e = cc
 read (related s) r e = cc
 
--- a numeral that is no value, by its tag
+-- a numeral that is no value
 abbrev pub NoValue : Result ℕ NumeralFault → Type 0
-NoValue n = OneOf (1 ∷ 2 ∷ []) (tag_of the_type n)
-
-pub no_value : (n : Result ℕ NumeralFault) → ((x : ℕ) → n ≡ Ok x → ⊥) → NoValue n
-no_value (Ok b) h = absurd (h b refl)
-no_value (Err NoForm) h = inl refl
-no_value (Err OverLarge) h = inr refl
+NoValue n = (fault : NumeralFault) × (n ≡ Err fault)
 
 first_fault : (l : List ℕ) (n : Result ℕ NumeralFault) → NoValue n → fault_of_number 1 n ≡ read_from_first l n
-first_fault l (Ok b) h = absurd (⊎_elim (λ e. omega arith) (λ e. omega arith) h)
+first_fault l (Ok b) (fault, e) = cc
 first_fault l (Err NoForm) h = refl
 first_fault l (Err OverLarge) h = refl
 
 second_fault : (a at : ℕ) (l : List ℕ) (n : Result ℕ NumeralFault) → NoValue n → fault_of_number at n ≡ read_from_second a at l n
-second_fault a at l (Ok b) h = absurd (⊎_elim (λ e. omega arith) (λ e. omega arith) h)
+second_fault a at l (Ok b) (fault, e) = cc
 second_fault a at l (Err NoForm) h = refl
 second_fault a at l (Err OverLarge) h = refl
 

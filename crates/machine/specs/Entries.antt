@@ -41,7 +41,8 @@ abbrev pub run_on : List ℕ → ℕ → List ℕ → ℕ → Run
 run_on ws d choices further = run_of (arcs_of (links_of ws)) d choices further
 
 abbrev pub reply_run : List ℕ → Run → Verdict → Result Ran Refusal
-reply_run ws r (Ok tt) = ran.Ran r.made r.idle (is_quiet (lowest (arcs_of (links_of ws)) r.state.waiting))
+reply_run ws r (Ok tt) =
+    Ok (record { made = r.made; idle = r.idle; quiet = is_quiet (lowest (arcs_of (links_of ws)) r.state.waiting) })
 reply_run ws r (Err why) = Err why
 
 unfoldable pub run_reply : Limits → List ℕ → ℕ → List ℕ → ℕ → ℕ → ℕ → Result Ran Refusal

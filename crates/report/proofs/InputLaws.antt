@@ -99,7 +99,7 @@ behind_is {t} {i} b = ap (λ (k : ℕ). take k (drop i t)) (sym (length-drop i t
 -- the destination's line ------------------------------------------------------------------------------------------------------
 
 no_value : (n : Result ℕ NumeralFault) (v : Verdict) → NoValue n → and_then (fault_of_number n) v ≡ Err (Unreadable 0)
-no_value (Ok d) v h = absurd (⊎_elim (λ e. omega arith) (λ e. omega arith) h)
+no_value (Ok d) v (fault, e) = cc
 no_value (Err NoForm) v h = refl
 no_value (Err OverLarge) v h = refl
 

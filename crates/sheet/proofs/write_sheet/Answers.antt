@@ -6,9 +6,9 @@ use Rattle.rules.specs.Checks.{base_limits}
 use Rattle.rules.specs.Network.{links_of, ases_of}
 use Rattle.sheet.proofs.WriteLaws.{write_accepted, write_refused}
 use Rattle.sheet.proofs.write_sheet.Goals as goal
-use Rattle.sheet.proofs.write_sheet.Goals.{After-list_ases-n, In-Accepted}
+use Rattle.sheet.proofs.write_sheet.Goals.{After-list_ases-n, In-Ok}
 
-few : (c : In-Accepted) → length (ases_of (links_of c.args.words.now)) ≤ 512
+few : (c : In-Ok) → length (ases_of (links_of c.args.words.now)) ≤ 512
 few c =
     let links = (check_words-Accepted base_limits _ _ (sym c.check_links-checked.ensures ∙ c.in-Ok.is)).1 in
     omega (arith, links.count, links.few_ases)
@@ -30,10 +30,10 @@ returns-in_default-clause-bytes c =
     w.1
 
 pub list_ases-n-requires : goal.list_ases-n-requires
-list_ases-n-requires c = few (goal.at.list_ases-n-requires c).In-Accepted
+list_ases-n-requires c = few (goal.at.list_ases-n-requires c).In-Ok
 
 pub write_for-requires : goal.write_for-requires
-write_for-requires c = rw (listed (goal.at.write_for-requires c).After-list_ases-n) (ases_Ascending _, omega (arith, few (goal.at.write_for-requires c).In-Accepted))
+write_for-requires c = rw (listed (goal.at.write_for-requires c).After-list_ases-n) (ases_Ascending _, omega (arith, few (goal.at.write_for-requires c).In-Ok))
 
 pub returns-clause-reply : goal.returns-clause-reply
 returns-clause-reply c =

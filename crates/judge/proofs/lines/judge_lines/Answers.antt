@@ -13,14 +13,14 @@ use Rattle.sheet.proofs.StandingLaws.{destination_there, destination_none}
 use Rattle.sheet.specs.Form.{destination_of, lines_of}
 use lib.Seq.{take-length}
 use Rattle.judge.proofs.lines.judge_lines.Goals as goal
-use Rattle.judge.proofs.lines.judge_lines.Goals.{After-lines_stand-stand, In-Passes}
+use Rattle.judge.proofs.lines.judge_lines.Goals.{After-lines_stand-stand, In-Ok}
 
 named : (c : After-lines_stand-stand)
     → (let A = c.args in
     Ok tt ≡ fault_of_destination (destination_of A.sheet.now) A.ases.now)
 named c = destination_there _ _ c.args.ases.now ((let it1 : (let A = c.args in let at = c.in-Some.at in (at < length A.ases.now) × (get_or A.ases.now at 0 ≡ destination_of A.sheet.now)) = let p = rw c.in-Some.is at c.place_of.ensures in (p.0, p.1 ∙ c.destination.ensures) in it1)).0 ((let it2 : (let A = c.args in let at = c.in-Some.at in (at < length A.ases.now) × (get_or A.ases.now at 0 ≡ destination_of A.sheet.now)) = let p = rw c.in-Some.is at c.place_of.ensures in (p.0, p.1 ∙ c.destination.ensures) in it2)).1
 
-told : (c : In-Passes)
+told : (c : In-Ok)
     → (let A = c.args in
     take (4 * length A.ases.now) c.lines_stand-stand.new.told ≡ words_of (lines_of A.sheet.now))
 told c =
@@ -55,10 +55,10 @@ pub judge_offers-requires : goal.judge_offers-requires
 judge_offers-requires c =
     let A = c.args in
     let n = c.requires.0 in
-    (n, rw (told (goal.at.judge_offers-requires c).In-Passes) (standing-Told A.bound c.requires.2 A.ases.now (distinct n) (lines_of A.sheet.now) ((sym c.lines_stand-stand.ensures.reply ∙ c.in-Ok.is))), (placed (goal.at.judge_offers-requires c).After-lines_stand-stand).0)
+    (n, rw (told (goal.at.judge_offers-requires c).In-Ok) (standing-Told A.bound c.requires.2 A.ases.now (distinct n) (lines_of A.sheet.now) ((sym c.lines_stand-stand.ensures.reply ∙ c.in-Ok.is))), (placed (goal.at.judge_offers-requires c).After-lines_stand-stand).0)
 
 pub returns : goal.returns
 returns c =
     let A = c.args in
-    let best = offers_told (links_of A.words.now) (lines_of A.sheet.now) c.judge_offers.ensures (placed (goal.at.returns c).After-lines_stand-stand).1 (told (goal.at.returns c).In-Passes) in
+    let best = offers_told (links_of A.words.now) (lines_of A.sheet.now) c.judge_offers.ensures (placed (goal.at.returns c).After-lines_stand-stand).1 (told (goal.at.returns c).In-Ok) in
     lines_in_order A.bound _ A.ases.now A.sheet.now _ _ _ c.requires.0.ases (named (goal.at.returns c).After-lines_stand-stand) (sym ((sym c.lines_stand-stand.ensures.reply ∙ c.in-Ok.is))) best

@@ -1,6 +1,6 @@
 -- A field ends where the search for a bar stops; its number and what follows pick the definition's case.
 use Rattle.std.proofs.Common.{sym, arith, length-take-le}
-use Rattle.linktext.proofs.FieldLaws.{no_value, first_no, first_goes, first_ends}
+use Rattle.linktext.proofs.FieldLaws.{first_no, first_goes, first_ends}
 use Rattle.linktext.proofs.PlaceLaws.{cut}
 use Rattle.linktext.proofs.line.read_first.Goals as goal
 
@@ -8,7 +8,7 @@ pub slice_bounds-read_number-end : goal.slice_bounds-read_number-end
 slice_bounds-read_number-end c = sym (length-take-le c.find-end.result c.args.line.now ((cut c.args.line.now 0 c.find-end.result (omega arith) c.find-end.ensures)).within)
 
 pub returns-in_default : goal.returns-in_default
-returns-in_default c = first_no ((cut c.args.line.now 0 c.find-end.result (omega arith) c.find-end.ensures)) c.read_number-number.ensures c.number_fault.ensures (no_value _ c.in_default.not-Value)
+returns-in_default c = first_no ((cut c.args.line.now 0 c.find-end.result (omega arith) c.find-end.ensures)) c.read_number-number.ensures c.number_fault.ensures (_, c.in_default.is)
 
 pub overflow_add-next : goal.overflow_add-next
 overflow_add-next c = omega (arith, ((cut c.args.line.now 0 c.find-end.result (omega arith) c.find-end.ensures)).within)

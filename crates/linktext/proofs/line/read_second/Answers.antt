@@ -1,5 +1,5 @@
 -- A field ends where the search for a bar stops; its number and what follows pick the definition's case.
-use Rattle.linktext.proofs.FieldLaws.{no_value, second_no, second_goes, second_ends}
+use Rattle.linktext.proofs.FieldLaws.{second_no, second_goes, second_ends}
 use Rattle.linktext.proofs.PlaceLaws.{cut}
 use Rattle.linktext.proofs.line.read_second.Goals as goal
 
@@ -9,7 +9,7 @@ slice_bounds-read_number-end c = ((cut c.args.line.now c.args.from c.find-end.re
 pub returns-in_default : goal.returns-in_default
 returns-in_default c =
     let a = c.args.a in
-    second_no a ((cut c.args.line.now c.args.from c.find-end.result c.requires c.find-end.ensures)) c.read_number-number.ensures c.number_fault.ensures (no_value _ c.in_default.not-Value)
+    second_no a ((cut c.args.line.now c.args.from c.find-end.result c.requires c.find-end.ensures)) c.read_number-number.ensures c.number_fault.ensures (_, c.in_default.is)
 
 pub returns-then-end-line : goal.returns-then-end-line
 returns-then-end-line c =

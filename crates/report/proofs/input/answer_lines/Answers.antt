@@ -1,6 +1,5 @@
 -- `answer_lines`: the first line ends where the search for an LF stops; its number and the text behind it decide.
 use Rattle.std.proofs.Common.{◌≡◌, sym, arith, length-take-le}
-use Rattle.linktext.proofs.FieldLaws.{no_value}
 use Rattle.linktext.proofs.PlaceLaws.{place_le}
 use Rattle.linktext.specs.Fields.{place_of}
 use Rattle.linktext.specs.Lines.{lf}
@@ -17,7 +16,7 @@ returns-in_default c =
     let A = c.args in
     let f = c.find-end in
     let here : f.result ≡ place_of lf A.input.now = omega arith in
-    refuses (no_number A.input.now here c.read_number-number.ensures (no_value _ c.in_default.not-Value))
+    refuses (no_number A.input.now here c.read_number-number.ensures (_, c.in_default.is))
 
 pub returns : goal.returns
 returns c =
