@@ -33,7 +33,7 @@ fn settle(words: &[u32], end: Ending, table: &mut [u32; TABLE_WORDS], room: &mut
     ensures room_len_unchanged { length room.new ≡ length room.old }
 {
     if end.quiet {
-        table::stable_table(words, end.destination, table, room);
+        let _ = table::stable_table(words, end.destination, table, room);
     }
 }
 

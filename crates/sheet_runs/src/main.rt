@@ -72,8 +72,8 @@ fn main(rt: HostRuntime) -> io::Result<()> {
     let mut table = [0u32; 20];
     let mut room = [0u32; 80];
     let mut bytes = [0u8; 65];
-    table::stable_table(&NETWORK_A, 40, &mut table, &mut room);
-    sheet::write_sheet(&NETWORK_A, 40, &table, &mut bytes);
+    let _ = table::stable_table(&NETWORK_A, 40, &mut table, &mut room);
+    let _ = sheet::write_sheet(&NETWORK_A, 40, &table, &mut bytes);
     say_cuts(&rt, &bytes)?;
     end_line(&rt)?;
     say_changes(&rt, bytes)

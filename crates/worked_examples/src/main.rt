@@ -101,8 +101,8 @@ fn say_sheets(rt: &impl Print) -> io::Result<()> {
     let mut table = [0u32; 20];
     let mut room = [0u32; 80];
     let mut bytes = [0u8; 65];
-    table::stable_table(&NETWORK_A, 40, &mut table, &mut room);
-    sheet::write_sheet(&NETWORK_A, 40, &table, &mut bytes);
+    let _ = table::stable_table(&NETWORK_A, 40, &mut table, &mut room);
+    let _ = sheet::write_sheet(&NETWORK_A, 40, &table, &mut bytes);
     say(rt, "P1 sheet")?;
     say_judged(rt, &bytes)?;
     bytes[60] = 2;
