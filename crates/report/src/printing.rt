@@ -1,5 +1,5 @@
 // The report's words, numbers and lines into lent bytes, one behind the other.
-ghost use Rattle.std.specs.Prelude.{◌≤◌};
+ghost use Rattle.std.specs.Prelude.{◌<◌, ◌≤◌};
 ghost use Rattle.rules.specs.Refusals.{refusal_place};
 ghost use Rattle.report.specs.Report.{refusal_line};
 ghost use Rattle.report.specs.Printing.{Printed, told_text};
