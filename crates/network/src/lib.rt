@@ -8,8 +8,10 @@ ghost use Rattle.rules.specs.Ascending.{Ascending};
 ghost use Rattle.network.specs.Promises.{HasLink, with_link, Fresh, Stands, Listed};
 ghost use Rattle.network.specs.Tables.{home_of_as};
 
+pub use accepted::Network;
 use rules::{Limits, Link, Refusal};
 
+mod accepted;
 mod gather;
 mod order;
 mod quick;
