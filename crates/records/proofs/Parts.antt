@@ -1,13 +1,13 @@
 -- What the loop of `to_words` uses of numbers and lists. The words after i links are those links' words, and the rest as they were; one link
 -- more is `more_words` of the crate linktext.
 use mathlib.Core.Path.{◌≡◌, refl, sym, ◌∙◌, ap}
-use Prim.Native.Nat.{ℕ, suc, ◌+◌, ◌*◌, ◌<◌, ◌≤◌, ◌^◌}
+use Prim.Native.Nat.{ℕ, suc, ◌+◌, ◌*◌, ◌<◌, ◌≤◌}
 use native.Mathlib.Omega.{arith}
 use native.Mathlib.Nat.{le_of_lt}
 use native.Mathlib.Numerals.{add-one}
 use mathlib.Core.List.{List, ◌++◌}
 use lib.ListN.{length, get_or, take, drop, length-append, length-drop}
-use lib.Seq.{take-suc, take-length, length-take-le}
+use lib.Seq.{take-suc, length-take-le}
 use Rattle.rules.specs.declared.Link.{Link}
 use Rattle.rules.specs.Network.{flat}
 use Rattle.rules.proofs.NetworkLaws.{flat-length}

@@ -1,19 +1,16 @@
 -- What a page holds after one part, and after one part behind another.
-use Prim.Native.Nat.{ℕ, suc, ◌+◌, ◌-◌, ◌*◌, ◌≤◌, ◌<◌}
-use mathlib.Core.Path.{◌≡◌, refl, sym, ◌∙◌, ap}
+use Prim.Native.Nat.{ℕ, ◌+◌, ◌-◌, ◌<◌}
+use mathlib.Core.Path.{◌≡◌, refl, ◌∙◌}
 use mathlib.Core.List.{List, [], ◌∷◌, ◌++◌, append_assoc}
 use native.Mathlib.Nat.{zero-add}
 use native.Mathlib.Omega.{arith}
 use native.Mathlib.Numerals.{add-one}
-use lib.ListN.{length, set, take, drop, length-append}
+use lib.ListN.{length, set}
 use lib.Seq.{sets, sets-eq, drop-drop}
 use borrow.Rule.Slice.PartMut.{put_mid}
-use Rattle.rules.specs.Stable.{Line}
 use Rattle.rules.proofs.StoreLaws.{sets-append}
-use Rattle.linktext.proofs.TextLaws.{digits_bound}
 use Rattle.offers.specs.Lines.{number_word, entry_line}
-use Rattle.linktext.specs.Stored.{Stored}
-use Rattle.linktext.proofs.StoreLaws.{Stored-length, Stored-then, stored_on}
+use Rattle.linktext.proofs.StoreLaws.{Stored-length, Stored-then}
 use Rattle.report.specs.declared.printing.Page.{Page}
 use Rattle.report.specs.Report.{sp, line_text}
 use Rattle.report.specs.Printing.{entries_text}
@@ -45,4 +42,3 @@ entries_none a t = record { stored = record { bytes = refl; after = omega arith 
 pub entries_one : (a b c : Page) (t : List ℕ) (i : ℕ) → Puts a (entries_text t 0 i) b → Puts b (line_text (number_word t i) (entry_line t i)) c
     → Puts a (entries_text t 0 (i + 1)) c
 entries_one a b c t i p q = rw (add-one i, entries_more t 0 i, zero-add i) (put_then p q)
-

@@ -1,12 +1,10 @@
 -- What is printed byte after byte and line after line: one turn of each loop, and how long each part is.
-use Prim.Native.Nat.{ℕ, zero, suc, ◌+◌, ◌-◌, ◌*◌, ◌≤◌, ◌<◌}
+use Prim.Native.Nat.{ℕ, zero, suc, ◌+◌, ◌-◌, ◌*◌, ◌≤◌}
 use mathlib.Core.Path.{◌≡◌, ◌∙◌}
 use mathlib.Core.Bool.{Bool, true, false}
-use mathlib.Core.List.{List, [], ◌∷◌, ◌++◌, append_assoc, append-nil}
+use mathlib.Core.List.{List, ◌++◌, append_assoc, append-nil}
 use native.Mathlib.Omega.{arith}
-use native.Mathlib.Numerals.{add-one}
-use lib.ListN.{length, get_or, set, drop, length-append, drop_of_length-le}
-use lib.Seq.{sets, drop-cons}
+use lib.ListN.{length, length-append}
 use Rattle.rules.specs.declared.Refusal.{Refusal}
 use Rattle.rules.specs.Refusals.{refusal_number, refusal_place}
 use Rattle.rules.specs.Stable.{Line}
@@ -20,10 +18,6 @@ use Rattle.offers.specs.Lines.{number_word, entry_line}
 use Rattle.report.specs.declared.Told.{Told}
 use Rattle.report.specs.Report.{sp, word_destination, word_ring, word_joined, yes_no, quiet_or, spaced, line_text, refusal_line}
 use Rattle.report.specs.Printing.{Printed, two_text, entries_text, head_text, told_text}
-
--- two parts as they are stored, each with the byte behind it; `spaced` is one of these
-pub two_parts : (x y : List ℕ) (end : ℕ) → x ++ (sp ∷ (y ++ (end ∷ []))) ≡ (x ++ (sp ∷ [])) ++ (y ++ (end ∷ []))
-two_parts x y end = simp append_assoc
 
 -- a line as it is stored: AS and type, then length and next hop
 pub Line-parts : (u : ℕ) (l : Line) → line_text u l ≡ two_text u l.pair.typ sp ++ two_text l.pair.length l.next lf

@@ -79,9 +79,6 @@ valued-refused n e p = p ∙ rw e
 -- The text is refused ------------------------------------------------------------------------------------------------------
 
 module _ (t : List ℕ) {why : Refusal} (e : fault_of_network base_limits t ≡ Err why) {r : Result ℕ Refusal} (p : r ≡ Err why) where
-  pub found_unread : r ≡ told_findings t
-  found_unread = p ∙ rw e
-
   pub sheet_unread : (d : ℕ) (bytes : List ℕ) → (r ≡ told_sheet t d (length bytes)) × (bytes ≡ final_sheet base_limits t d bytes)
   unfolding final_sheet fault_of_sheet
   sheet_unread d bytes = (p ∙ rw e, rw e)

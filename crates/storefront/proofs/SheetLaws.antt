@@ -1,16 +1,15 @@
 -- A sheet from link words: the table's refusals come first, its lines are those of the one stable routing, and what is left is whether
 -- the sheet fits.
-use Prim.Native.Nat.{ℕ, ◌+◌, ◌*◌, ◌/◌, ◌≤◌, ◌<◌}
+use Prim.Native.Nat.{ℕ, ◌+◌, ◌*◌, ◌/◌}
 use mathlib.Core.Path.{◌≡◌, sym, ◌∙◌, ap, subst}
 use mathlib.Core.List.{List}
 use native.Mathlib.Omega.{arith}
 use lib.ListN.{length, take}
 use lib.Seq.{take_at}
-use borrow.Author.Tests.{le-leb, lt-leb}
+use borrow.Author.Tests.{le-leb}
 use Rattle.rules.specs.Replies.{Verdict}
 use Rattle.std.specs.Prelude.{Err, Ok, Result}
 use Rattle.rules.specs.declared.Refusal.{Refusal}
-use Rattle.rules.specs.declared.Refusal.TheVariants.{OutputShort}
 use Rattle.rules.specs.Network.{links_of, ases_of, arcs_of}
 use Rattle.rules.specs.Checks.{base_limits, check_words}
 use Rattle.rules.specs.Entry.{and_then, verdict_of, fault_of_links, fault_of_destination, fault_of_output, filled}
@@ -22,21 +21,9 @@ use Rattle.rules.proofs.VerdictLaws.{then_assoc, then_same, then_passes}
 use Rattle.table.specs.Entries.{fault_of_table, Filled, TableAfter}
 use Rattle.table.proofs.StableLaws.{filled_words}
 use Rattle.sheet.specs.Form.{sheet_of}
-use Rattle.sheet.specs.Places.{over}
 use Rattle.storefront.specs.Steps.{valued, room_words, Stably, fault_of_lines, told_lines, final_lines}
 use Rattle.storefront.proofs.OrderLaws.{few_ases, room_suffices}
 use Rattle.storefront.proofs.TableLaws.{accepted_ases}
-
--- Whether it fits -----------------------------------------------------------------------------------------------------------
-
-module _ (need : ℕ) (out bytes : List ℕ) where
-  pub too_long : length bytes < need → {r : Result ℕ Refusal} → r ≡ Err OutputShort
-      → (r ≡ valued (fault_of_output need (length bytes)) need) × (bytes ≡ filled (fault_of_output need (length bytes)) out bytes)
-  too_long h p = (p ∙ rw (lt-leb need (length bytes) h), rw (lt-leb need (length bytes) h))
-
-  pub written : need ≤ length bytes → {after : List ℕ} → after ≡ over out bytes
-      → (Ok need ≡ valued (fault_of_output need (length bytes)) need) × (after ≡ filled (fault_of_output need (length bytes)) out bytes)
-  written h p = (rw (le-leb need (length bytes) h), p ∙ rw (le-leb need (length bytes) h))
 
 module _ (ws : List ℕ) (d : ℕ) where
   abbrev us : List ℕ

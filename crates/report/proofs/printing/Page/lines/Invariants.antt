@@ -1,5 +1,4 @@
 -- `lines` puts line after line: the first i lines stand, and i lines take at most 44 bytes each.
-use Rattle.std.proofs.Common.{◌≡◌}
 use Rattle.report.specs.Printing.{entries_text}
 use Rattle.report.specs.Pages.{Puts}
 use Rattle.report.proofs.printing.Page.lines.Given as goal
