@@ -22,6 +22,7 @@ pub mod loaded;
 pub const MOST_LINKS: usize = 1536;
 
 // The list as words, by value: how many links there are, and their words where they are few.
+// Kept: a count beside the words, since callers make and take apart this public type.
 #[derive(Clone, Copy, Debug, PartialEq, Eq)]
 pub struct Words {
     pub count: usize,
@@ -99,7 +100,12 @@ pub fn stable_table(
 }
 
 // A table's sheet into lent bytes: the number of bytes, or refusals 1, 2 to 6, 7, 11, 8.
-pub fn write_sheet(links: &[Link], destination: u32, table: &[u32], bytes: &mut [u8]) -> Result<usize, Refusal>
+pub fn write_sheet(
+    links: &[Link],
+    destination: u32,
+    table: &[u32],
+    bytes: &mut [u8],
+) -> Result<usize, Refusal>
     ensures { SheetWritten (flat links.now) destination table.now bytes.old result bytes.new }
 {
     loaded::write_sheet(load(links), destination, table, bytes)

@@ -1,4 +1,5 @@
 // The entries over links that were loaded by value: refusal 1 of too many, else the entry over words.
+// Kept: a function for each entry, as in the crate's root, since all of them are public; each is one call.
 ghost use Rattle.std.specs.Prelude.{◌≡◌};
 ghost use Rattle.rules.specs.Checks.{base_limits, check_words};
 ghost use Rattle.table.specs.Entries.{Tabled};
@@ -33,14 +34,24 @@ pub fn find(w: Words, room: &mut [u32]) -> Result<Found, Refusal>
 }
 
 // The stable table to a destination.
-pub fn stable_table(w: Words, destination: u32, table: &mut [u32], room: &mut [u32]) -> Result<(), Refusal>
+pub fn stable_table(
+    w: Words,
+    destination: u32,
+    table: &mut [u32],
+    room: &mut [u32],
+) -> Result<(), Refusal>
     ensures { Holding w (λ ws. Tabled base_limits ws destination table.old room.old result table.new room.new) }
 {
     table::stable_table(w.link_words()?, destination, table, room)
 }
 
 // A table's sheet into lent bytes.
-pub fn write_sheet(w: Words, destination: u32, table: &[u32], bytes: &mut [u8]) -> Result<usize, Refusal>
+pub fn write_sheet(
+    w: Words,
+    destination: u32,
+    table: &[u32],
+    bytes: &mut [u8],
+) -> Result<usize, Refusal>
     ensures { Holding w (λ ws. SheetWritten ws destination table.now bytes.old result bytes.new) }
 {
     sheet::write_sheet(w.link_words()?, destination, table, bytes)
@@ -64,12 +75,5 @@ pub fn run(
 ) -> Result<Ran, Refusal>
     ensures { Holding w (λ ws. Answered base_limits ws destination choices.now further table.old room.old result table.new room.new) }
 {
-    machine::run(
-        w.link_words()?,
-        destination,
-        choices,
-        further,
-        table,
-        room,
-    )
+    machine::run(w.link_words()?, destination, choices, further, table, room)
 }

@@ -26,7 +26,7 @@ use Rattle.report.specs.Report.{first_line, after_first, fault_of_number, destin
 use Rattle.report.specs.declared.Ending.{Ending}
 use Rattle.report.specs.declared.Told.{Told}
 
--- within document 01's limits
+-- within the base limits
 abbrev pub fault_of_link_words : List ℕ → ℕ → Verdict
 fault_of_link_words ws d = and_then (fault_of_links base_limits ws) (fault_of_destination d (ases_of (links_of ws)))
 

@@ -51,7 +51,7 @@ fn settle(
 }
 
 // Lines and findings where the run has ended.
-// Kept: table and room are two lent slices here and below; a struct of them would need a clause of its loans for each in every function.
+// Kept: table and room go on side by side; a struct of the two would need a clause for each one's loan in every function.
 fn tell(
     network: Network<'_>,
     end: Ending,

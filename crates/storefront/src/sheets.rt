@@ -19,7 +19,8 @@ pub fn make(words: &[u32], destination: u32, sheet: &mut [u8]) -> Result<u64, Re
     make_for(Network::check(words)?, destination, sheet)
 }
 
-// The same of an accepted network: the check is over when the table is there.
+// The same of an accepted network.
+// Kept: a function of its own, so that the check's memory is free when table and room are taken: the stack is fixed.
 fn make_for(network: Network<'_>, destination: u32, sheet: &mut [u8]) -> Result<u64, Refusal>
     ensures reply { result ≡ told_lines network.entry.words.now destination (length sheet.old) }
     ensures bytes { sheet.new ≡ final_lines network.entry.words.now destination sheet.old }

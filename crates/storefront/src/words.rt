@@ -1,4 +1,5 @@
 // Judge, findings, machine and stable table on link words, each in a room of its own, which always suffices.
+// Kept: a room in each of the four; a closure over one room is no shorter, for its contract would say what each leaves in lent memory again.
 ghost use Rattle.std.specs.Prelude.{◌≡◌, length};
 ghost use Rattle.rules.specs.Checks.{base_limits};
 ghost use Rattle.findings.specs.Entries.{findings_reply};
@@ -30,7 +31,8 @@ pub fn find(words: &[u32]) -> Result<Found, Refusal>
     find_in(Network::check(words)?)
 }
 
-// The findings on an accepted network: the check is over when the room is there.
+// The findings on an accepted network.
+// Kept: a function of its own, so that the check's memory is free when the room is taken: the stack is fixed.
 fn find_in(network: Network<'_>) -> Result<Found, Refusal>
     ensures { result ≡ findings_reply base_limits network.entry.words.now room_words }
 {
