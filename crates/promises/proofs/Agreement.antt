@@ -3,7 +3,7 @@
 -- of which there is exactly one (`stable_words`).
 --
 --   once, twice        what equals one value is one; the same of a reply and of lent memory
---   CheckLinks .. Run  the contracts of the entries, with the limits of document 01
+--   CheckLinks .. Run  the contracts of the entries, with the base limits
 --   .. -once           any two outcomes that such a contract allows agree
 use Prim.Native.Nat.{ℕ}
 use mathlib.Core.Path.{◌≡◌, sym, ◌∙◌}

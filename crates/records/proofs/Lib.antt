@@ -1,4 +1,3 @@
 pub mod Parts
-pub mod Front
 pub mod Laws
 pub mod ManyLaws

@@ -1,53 +1,25 @@
 -- What the loop of `to_words` uses of numbers and lists. The words after i links are those links' words, and the rest as they were; one link
 -- more is `more_words` of the crate linktext.
 use mathlib.Core.Path.{◌≡◌, refl, sym, ◌∙◌, ap}
-use Prim.Native.Nat.{ℕ, suc, ◌+◌, ◌*◌, ◌<◌, ◌≤◌, ◌^◌}
+use Prim.Native.Nat.{ℕ, suc, ◌+◌, ◌*◌, ◌<◌, ◌≤◌}
 use native.Mathlib.Omega.{arith}
 use native.Mathlib.Nat.{le_of_lt}
 use native.Mathlib.Numerals.{add-one}
 use mathlib.Core.List.{List, ◌++◌}
 use lib.ListN.{length, get_or, take, drop, length-append, length-drop}
-use lib.Seq.{take-suc, take-length, length-take-le}
+use lib.Seq.{take-suc, length-take-le}
 use Rattle.rules.specs.declared.Link.{Link}
 use Rattle.rules.specs.Network.{flat}
 use Rattle.rules.proofs.NetworkLaws.{flat-length}
 use Rattle.network.specs.Promises.{with_link}
 use Rattle.linktext.proofs.ScratchLaws.{more_words}
 
--- ---- numbers: link i of n, whose records take 12 bytes each
-pub small : (i n : ℕ) → n * 12 < 2 ^ 63 → i < n → i * 12 < 2 ^ 64
-small i n g l = omega arith
-
-pub next_fits : (i n : ℕ) → n < 2 ^ 64 → i < n → i + 1 < 2 ^ 64
-next_fits i n g l = omega arith
-
-pub index_fits : (i n : ℕ) → n < 2 ^ 64 → i < n → i < 2 ^ 64
-index_fits i n g l = omega arith
-
--- link i's words are within
-pub three_fit : (i n m k : ℕ) → 3 * n ≤ m → k ≡ m → i < n → 3 * i + 3 ≤ k
-three_fit i n m k g e l = omega arith
-
-pub is_last : (i n : ℕ) → i + 0 ≡ n → n ≡ i
-is_last i n e = omega arith
-
-pub is_less : (i t n : ℕ) → i + suc t ≡ n → i < n
-is_less i t n e = omega arith
-
-pub is_next : (i t n : ℕ) → i + suc t ≡ n → suc i + t ≡ n
-is_next i t n e = omega arith
-
--- ---- words
 -- what stands past the end of a list of links
 abbrev pub no_link : Link
 no_link = record { a = 0; b = 0; relation = 0 }
 
 abbrev pub part : List Link → List ℕ → ℕ → List ℕ
 part ys ws i = flat (take i ys) ++ drop (3 * i) ws
-
-pub part-zero : (ys : List Link) (ws : List ℕ) → part ys ws 0 ≡ ws
-unfolding flat
-part-zero ys ws = refl
 
 module _ (ys : List Link) (ws : List ℕ) (fits : 3 * length ys ≤ length ws) where
   pub part_length : (i : ℕ) → i ≤ length ys → length (part ys ws i) ≡ length ws
@@ -59,6 +31,3 @@ module _ (ys : List Link) (ws : List ℕ) (fits : 3 * length ys ≤ length ws) w
       more_words (take i ys) (get_or ys i no_link) ws (part ys ws i) i (length-take-le i ys (le_of_lt l)) (omega arith) (part_length i (le_of_lt l)) refl
       ∙ ap (λ (us : List Link). flat us ++ drop (3 * (i + 1)) ws) (sym (take-suc ys i no_link l))
       ∙ ap (λ (k : ℕ). flat (take (suc i) ys) ++ drop (3 * k) ws) (add-one i)
-
-  pub part_all : part ys ws (length ys) ≡ flat ys ++ drop (3 * length ys) ws
-  part_all = rw take-length

@@ -22,24 +22,36 @@ pub mod loaded;
 pub const MOST_LINKS: usize = 1536;
 
 // The list as words, by value: how many links there are, and their words where they are few.
-#[derive(Clone, Copy)]
+// Kept: a count beside the words, since callers make and take apart this public type.
+#[derive(Clone, Copy, Debug, PartialEq, Eq)]
 pub struct Words {
     pub count: usize,
     pub words: [u32; 4608],
 }
 
-// The links' words in the first of the lent words: the loop that hands each link to `network::put_link`. It replies how many there are.
-fn to_words(links: &[Link], words: &mut [u32]) -> usize
-    requires { 3 * length links.now ≤ length words.old }
-    ensures { (result ≡ length links.now)
-        × (words.new ≡ flat links.now ++ drop (3 * length links.now) words.old) }
-{
-    let mut i = 0;
-    while i < links.len() {
-        network::put_link(words, i, links[i]);
-        i += 1;
+impl Words {
+    ghost use Rattle.std.specs.Prelude.{MatchResult};
+    ghost use Rattle.records.specs.Entries.{HoldsFew, HoldsMany};
+
+    // The links' words; or refusal 1 where there are too many.
+    pub fn link_words(&self) -> Result<&[u32], Refusal>
+        ensures { MatchResult result (λ ws. HoldsFew self.now ws.now) (λ why. HoldsMany self.now why) }
+    {
+        if self.count > MOST_LINKS {
+            return Err(Refusal::OverLimit);
+        }
+        Ok(&self.words[..WORDS_PER_LINK * self.count])
     }
-    i
+}
+
+// The links' words in the first of the lent words: each link is handed by value to `network::put_link`.
+fn to_words(links: &[Link], words: &mut [u32])
+    requires { 3 * length links.now ≤ length words.old }
+    ensures { words.new ≡ flat links.now ++ drop (3 * length links.now) words.old }
+{
+    for (i, link) in links.iter().enumerate() {
+        network::put_link(words, i, *link);
+    }
 }
 
 // The links by value: the words of too many are not kept.
@@ -58,24 +70,21 @@ pub fn load(links: &[Link]) -> Words
 pub fn check_links(links: &[Link]) -> Result<usize, Refusal>
     ensures { result ≡ check_words base_limits (flat links.now) }
 {
-    let w = load(links);
-    loaded::check_links(w)
+    loaded::check_links(load(links))
 }
 
 // The links' text into lent bytes: the number of bytes, or refusals 1, 3, 8.
 pub fn write_text(links: &[Link], bytes: &mut [u8]) -> Result<usize, Refusal>
     ensures { TextWritten (flat links.now) bytes.old result bytes.new }
 {
-    let w = load(links);
-    loaded::write_text(w, bytes)
+    loaded::write_text(load(links), bytes)
 }
 
 // Whether there is a customer ring, and whether the network is joined; or refusals 1, 2 to 6, 8.
 pub fn find(links: &[Link], room: &mut [u32]) -> Result<Found, Refusal>
     ensures { FoundIn (flat links.now) room.old result room.new }
 {
-    let w = load(links);
-    loaded::find(w, room)
+    loaded::find(load(links), room)
 }
 
 // The stable table to the destination, four words per AS; or refusals 1, 2 to 6, 7, 8.
@@ -87,24 +96,26 @@ pub fn stable_table(
 ) -> Result<(), Refusal>
     ensures { Tabled base_limits (flat links.now) destination table.old room.old result table.new room.new }
 {
-    let w = load(links);
-    loaded::stable_table(w, destination, table, room)
+    loaded::stable_table(load(links), destination, table, room)
 }
 
 // A table's sheet into lent bytes: the number of bytes, or refusals 1, 2 to 6, 7, 11, 8.
-pub fn write_sheet(links: &[Link], destination: u32, table: &[u32], bytes: &mut [u8]) -> Result<usize, Refusal>
+pub fn write_sheet(
+    links: &[Link],
+    destination: u32,
+    table: &[u32],
+    bytes: &mut [u8],
+) -> Result<usize, Refusal>
     ensures { SheetWritten (flat links.now) destination table.now bytes.old result bytes.new }
 {
-    let w = load(links);
-    loaded::write_sheet(w, destination, table, bytes)
+    loaded::write_sheet(load(links), destination, table, bytes)
 }
 
 // The judge of a sheet: it passes, or refusals 1, 2 to 6, 8 (room), 10, 7, 11, 12.
 pub fn judge_sheet(links: &[Link], sheet: &[u8], room: &mut [u32]) -> Result<(), Refusal>
     ensures { Judged base_limits 511 (flat links.now) sheet.now room.old result room.new }
 {
-    let w = load(links);
-    loaded::judge_sheet(w, sheet, room)
+    loaded::judge_sheet(load(links), sheet, room)
 }
 
 // A run of the machine: deliveries, idle choices, quiet or not; or refusals 1, 2 to 6, 7, 8, 13.
@@ -118,6 +129,5 @@ pub fn run(
 ) -> Result<Ran, Refusal>
     ensures { Answered base_limits (flat links.now) destination choices.now further table.old room.old result table.new room.new }
 {
-    let w = load(links);
-    loaded::run(w, destination, choices, further, table, room)
+    loaded::run(load(links), destination, choices, further, table, room)
 }

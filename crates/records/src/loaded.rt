@@ -1,4 +1,5 @@
 // The entries over links that were loaded by value: refusal 1 of too many, else the entry over words.
+// Kept: a function for each entry, as in the crate's root, since all of them are public; each is one call.
 ghost use Rattle.std.specs.Prelude.{◌≡◌};
 ghost use Rattle.rules.specs.Checks.{base_limits, check_words};
 ghost use Rattle.table.specs.Entries.{Tabled};
@@ -6,82 +7,61 @@ ghost use Rattle.judge.specs.Judging.{Judged};
 ghost use Rattle.machine.specs.Answers.{Answered};
 ghost use Rattle.records.specs.Entries.{Holding, TextWritten, FoundIn, SheetWritten};
 
-use super::{MOST_LINKS, Words};
+use super::Words;
 use findings::Found;
 use machine::Ran;
-use network::WORDS_PER_LINK;
 use rules::Refusal;
 
 // The number of the links' ASes, or the first refusal of 1 to 6.
 pub fn check_links(w: Words) -> Result<usize, Refusal>
     ensures { Holding w (λ ws. result ≡ check_words base_limits ws) }
 {
-    let n = w.count;
-    if n > MOST_LINKS {
-        return Err(Refusal::OverLimit);
-    }
-    let words = w.words;
-    network::check_links(&words[..WORDS_PER_LINK * n])
+    network::check_links(w.link_words()?)
 }
 
 // The links' text into lent bytes.
 pub fn write_text(w: Words, bytes: &mut [u8]) -> Result<usize, Refusal>
     ensures { Holding w (λ ws. TextWritten ws bytes.old result bytes.new) }
 {
-    let n = w.count;
-    if n > MOST_LINKS {
-        return Err(Refusal::OverLimit);
-    }
-    let words = w.words;
-    linktext::writing::write_text(&words[..WORDS_PER_LINK * n], bytes)
+    linktext::writing::write_text(w.link_words()?, bytes)
 }
 
 // The two findings.
 pub fn find(w: Words, room: &mut [u32]) -> Result<Found, Refusal>
     ensures { Holding w (λ ws. FoundIn ws room.old result room.new) }
 {
-    let n = w.count;
-    if n > MOST_LINKS {
-        return Err(Refusal::OverLimit);
-    }
-    let words = w.words;
-    findings::find(&words[..WORDS_PER_LINK * n], room)
+    findings::find(w.link_words()?, room)
 }
 
 // The stable table to a destination.
-pub fn stable_table(w: Words, destination: u32, table: &mut [u32], room: &mut [u32]) -> Result<(), Refusal>
+pub fn stable_table(
+    w: Words,
+    destination: u32,
+    table: &mut [u32],
+    room: &mut [u32],
+) -> Result<(), Refusal>
     ensures { Holding w (λ ws. Tabled base_limits ws destination table.old room.old result table.new room.new) }
 {
-    let n = w.count;
-    if n > MOST_LINKS {
-        return Err(Refusal::OverLimit);
-    }
-    let words = w.words;
-    table::stable_table(&words[..WORDS_PER_LINK * n], destination, table, room)
+    table::stable_table(w.link_words()?, destination, table, room)
 }
 
 // A table's sheet into lent bytes.
-pub fn write_sheet(w: Words, destination: u32, table: &[u32], bytes: &mut [u8]) -> Result<usize, Refusal>
+pub fn write_sheet(
+    w: Words,
+    destination: u32,
+    table: &[u32],
+    bytes: &mut [u8],
+) -> Result<usize, Refusal>
     ensures { Holding w (λ ws. SheetWritten ws destination table.now bytes.old result bytes.new) }
 {
-    let n = w.count;
-    if n > MOST_LINKS {
-        return Err(Refusal::OverLimit);
-    }
-    let words = w.words;
-    sheet::write_sheet(&words[..WORDS_PER_LINK * n], destination, table, bytes)
+    sheet::write_sheet(w.link_words()?, destination, table, bytes)
 }
 
 // The judge of a sheet.
 pub fn judge_sheet(w: Words, sheet: &[u8], room: &mut [u32]) -> Result<(), Refusal>
     ensures { Holding w (λ ws. Judged base_limits 511 ws sheet.now room.old result room.new) }
 {
-    let n = w.count;
-    if n > MOST_LINKS {
-        return Err(Refusal::OverLimit);
-    }
-    let words = w.words;
-    judge::judge_sheet(&words[..WORDS_PER_LINK * n], sheet, room)
+    judge::judge_sheet(w.link_words()?, sheet, room)
 }
 
 // A run of the machine.
@@ -95,17 +75,5 @@ pub fn run(
 ) -> Result<Ran, Refusal>
     ensures { Holding w (λ ws. Answered base_limits ws destination choices.now further table.old room.old result table.new room.new) }
 {
-    let n = w.count;
-    if n > MOST_LINKS {
-        return Err(Refusal::OverLimit);
-    }
-    let words = w.words;
-    machine::run(
-        &words[..WORDS_PER_LINK * n],
-        destination,
-        choices,
-        further,
-        table,
-        room,
-    )
+    machine::run(w.link_words()?, destination, choices, further, table, room)
 }

@@ -1,28 +1,25 @@
 -- The verdict on an input, part by part: what is left of it behind each test, and how a refusal leaves table and room.
 --
 --   refuses            a refusal leaves all as it was; left-over   what is left of a verdict
---   bad_links, good_links   the check of the links
 --   no_text, some_text the text's lines
 --   first_line_lem, behind-first  the first line and what is behind it, by the place of the first LF
---   no_number, a_number     the destination's line; too_long, not_too_long   the byte limit
+--   no_number, a_number     the destination's line
 use Prim.Native.Nat.{ℕ, suc, ◌+◌, ◌-◌, ◌*◌, ◌≤◌, ◌<◌}
 use mathlib.Core.Path.{◌≡◌, refl, sym, ◌∙◌, ap}
-use mathlib.Core.Logic.{⊎_elim}
 use mathlib.Core.List.{List, [], ◌∷◌}
 use native.Mathlib.Omega.{arith}
 use native.Mathlib.Numerals.{add-one}
 use lib.Dec.{eqb}
 use lib.ListN.{length, take, drop, length-drop, drop_of_length-le}
 use lib.Seq.{take-length}
-use borrow.Author.Tests.{le-leb, lt-leb}
 use Rattle.rules.specs.Replies.{Verdict}
 use Rattle.std.specs.Prelude.{Err, Ok, Result}
 use Rattle.rules.specs.declared.Link.{Link}
 use Rattle.rules.specs.declared.Refusal.{Refusal}
-use Rattle.rules.specs.declared.Refusal.TheVariants.{OverLimit, Unreadable}
-use Rattle.rules.specs.Network.{links_of, ases_of}
-use Rattle.rules.specs.Checks.{base_limits, check_words}
-use Rattle.rules.specs.Entry.{and_then, fault_of_destination}
+use Rattle.rules.specs.declared.Refusal.TheVariants.{Unreadable}
+use Rattle.rules.specs.Network.{links_of}
+use Rattle.rules.specs.Checks.{base_limits}
+use Rattle.rules.specs.Entry.{and_then}
 use Rattle.rules.proofs.Tests.{by_cond}
 use Rattle.linktext.specs.declared.NumeralFault.{NumeralFault}
 use Rattle.linktext.specs.declared.NumeralFault.TheVariants.{NoForm, OverLarge}
@@ -34,32 +31,19 @@ use Rattle.linktext.proofs.PlaceLaws.{place_le}
 use Rattle.linktext.proofs.FieldLaws.{NoValue}
 use Rattle.linktext.proofs.ScratchLaws.{Got}
 use Rattle.linktext.proofs.WordNetworks.{got_links, got_fault, lost_fault}
-use Rattle.report.specs.declared.Answer.{Answer}
-use Rattle.report.specs.declared.Answer.TheVariants as answer
-use Rattle.report.specs.Report.{first_line, after_first, fault_of_number, value_of, destination_in, links_behind, fault_of_report}
-use Rattle.report.specs.Answers.{fault_of_link_words, fault_of_text, fault_of_lines, BehindFirst, Counted, Worked}
+use Rattle.report.specs.declared.Told.{Told}
+use Rattle.report.specs.Report.{first_line, after_first, fault_of_number, value_of, destination_in, links_behind}
+use Rattle.report.specs.Answers.{fault_of_link_words, fault_of_text, fault_of_lines, BehindFirst, Worked}
 
-pub refuses : {ls : List Link} {d : ℕ} {t r : List ℕ} {v : Verdict} {why : Refusal} → v ≡ Err why → Worked ls d v t r (answer.Refused why) t r
+pub refuses : {ls : List Link} {d : ℕ} {t r : List ℕ} {v : Verdict} {why : Refusal} → v ≡ Err why → Worked ls d v t r (Err why) t r
 refuses e = rw e (record { replies = refl; tabled = refl; zeroed = refl })
-
--- the check of the links ----------------------------------------------------------------------------------------------------
-
-module _ (ws : List ℕ) {c : Result ℕ Refusal} (check : c ≡ check_words base_limits ws) where
-  pub bad_links : (d : ℕ) {why : Refusal} → c ≡ Err why → fault_of_link_words ws d ≡ Err why
-  bad_links d e = rw (← check, e)
-
-  pub good_links : {n : ℕ} → c ≡ Ok n → Counted ws n
-  good_links e = record { accepted = sym check ∙ e }
-
-pub links_pass : {ws : List ℕ} {n : ℕ} (d : ℕ) → Counted ws n → fault_of_link_words ws d ≡ fault_of_destination d (ases_of (links_of ws))
-links_pass d ok = rw ok.accepted
 
 -- the text's lines ----------------------------------------------------------------------------------------------------------
 
 pub no_text : (t : List ℕ) (d : ℕ) {why : Refusal} → text_in base_limits t ≡ refused why → fault_of_text t d ≡ Err why
 no_text t d e = rw (lost_fault base_limits t e)
 
-pub some_text : (t : List ℕ) (d : ℕ) {m : ℕ} {ws : List ℕ} → Got (text_in base_limits t) m ws → {u r : List ℕ} {a : Answer} {u' r' : List ℕ}
+pub some_text : (t : List ℕ) (d : ℕ) {m : ℕ} {ws : List ℕ} → Got (text_in base_limits t) m ws → {u r : List ℕ} {a : Result Told Refusal} {u' r' : List ℕ}
     → Worked (links_of (take (3 * m) ws)) d (fault_of_link_words (take (3 * m) ws) d) u r a u' r'
     → Worked (links_of_text base_limits t) d (fault_of_text t d) u r a u' r'
 some_text t d g w = rw (← got_fault base_limits t g, ← got_links base_limits t g) w
@@ -110,17 +94,7 @@ module _ (t : List ℕ) {end : ℕ} (here : end ≡ place_of lf t) {x : Result �
   pub no_number : NoValue x → fault_of_lines t ≡ Err (Unreadable 0)
   no_number h = rw (← line_number) (no_value x (fault_of_text (after_first t) (value_of x)) h)
 
-  module _ {d start : ℕ} (value : x ≡ Ok d) (b : BehindFirst t start) {u r : List ℕ} {a : Answer} {u' r' : List ℕ} where
+  module _ {d start : ℕ} (value : x ≡ Ok d) (b : BehindFirst t start) {u r : List ℕ} {a : Result Told Refusal} {u' r' : List ℕ} where
     pub a_number : Worked (links_of_text base_limits (behind t start)) d (fault_of_text (behind t start) d) u r a u' r'
         → Worked (links_behind base_limits t) (destination_in t) (fault_of_lines t) u r a u' r'
     a_number w = rw (← line_number, value) (rw (behind_is b) at w)
-
--- the byte limit --------------------------------------------------------------------------------------------------------------
-
-pub too_long : (t : List ℕ) → 65536 < length t → fault_of_report base_limits t ≡ Err OverLimit
-unfolding fault_of_report
-too_long t h = rw (lt-leb (length t) 65536 h)
-
-pub not_too_long : (t : List ℕ) → length t ≤ 65536 → fault_of_report base_limits t ≡ fault_of_lines t
-unfolding fault_of_report
-not_too_long t h = rw (le-leb (length t) 65536 h)

@@ -1,5 +1,6 @@
 pub mod WorkedExamples
 pub mod PrintLaws
+pub mod PageLaws
 pub mod WorkLaws
 pub mod InputLaws
 pub mod ReportLaws

@@ -1,12 +1,10 @@
 -- What is printed byte after byte and line after line: one turn of each loop, and how long each part is.
-use Prim.Native.Nat.{ℕ, zero, suc, ◌+◌, ◌-◌, ◌*◌, ◌≤◌, ◌<◌}
+use Prim.Native.Nat.{ℕ, zero, suc, ◌+◌, ◌-◌, ◌*◌, ◌≤◌}
 use mathlib.Core.Path.{◌≡◌, ◌∙◌}
 use mathlib.Core.Bool.{Bool, true, false}
-use mathlib.Core.List.{List, [], ◌∷◌, ◌++◌, append_assoc}
+use mathlib.Core.List.{List, ◌++◌, append_assoc, append-nil}
 use native.Mathlib.Omega.{arith}
-use native.Mathlib.Numerals.{add-one}
-use lib.ListN.{length, get_or, set, drop, length-append, drop_of_length-le}
-use lib.Seq.{sets, drop-cons}
+use lib.ListN.{length, length-append}
 use Rattle.rules.specs.declared.Refusal.{Refusal}
 use Rattle.rules.specs.Refusals.{refusal_number, refusal_place}
 use Rattle.rules.specs.Stable.{Line}
@@ -20,23 +18,6 @@ use Rattle.offers.specs.Lines.{number_word, entry_line}
 use Rattle.report.specs.declared.Told.{Told}
 use Rattle.report.specs.Report.{sp, word_destination, word_ring, word_joined, yes_no, quiet_or, spaced, line_text, refusal_line}
 use Rattle.report.specs.Printing.{Printed, two_text, entries_text, head_text, told_text}
-
--- one byte of a word
-module _ (l word ys : List ℕ) (at i : ℕ) where
-  pub word_next : i < length word → sets (set l (at + i) (get_or word i 0)) (at + (i + 1)) (drop (i + 1) word ++ ys) ≡ sets l (at + i) (drop i word ++ ys)
-  word_next h =
-      let e : at + suc i ≡ suc (at + i) = omega arith in
-      rw (add-one, e, drop-cons word i 0)
-
-  pub word_done : length word ≤ i → sets l (at + i) (drop i word ++ ys) ≡ sets l (at + i) ys
-  word_done h = rw (drop_of_length-le word h)
-
-pub from_front : (l out : List ℕ) (at : ℕ) → sets l (at + 0) out ≡ sets l at out
-from_front l out at = (let e : at + 0 ≡ at = omega arith in rw e)
-
--- two parts as they are stored, each with the byte behind it; `spaced` is one of these
-pub two_parts : (x y : List ℕ) (end : ℕ) → x ++ (sp ∷ (y ++ (end ∷ []))) ≡ (x ++ (sp ∷ [])) ++ (y ++ (end ∷ []))
-two_parts x y end = simp append_assoc
 
 -- a line as it is stored: AS and type, then length and next hop
 pub Line-parts : (u : ℕ) (l : Line) → line_text u l ≡ two_text u l.pair.typ sp ++ two_text l.pair.length l.next lf
@@ -91,21 +72,13 @@ pub refusal_bound : (why : Refusal) → length (refusal_line why) ≤ 30
 unfolding refusal_line
 refusal_bound why = omega (arith, two_bound (refusal_number why) (refusal_place why) lf)
 
--- one line of a table
-pub entries_next : (t : List ℕ) (i n : ℕ) → i < n → entries_text t i (n - i) ≡ line_text (number_word t i) (entry_line t i) ++ entries_text t (i + 1) (n - (i + 1))
+-- one line of a table more
+pub entries_more : (t : List ℕ) (i k : ℕ) → entries_text t i (suc k) ≡ entries_text t i k ++ line_text (number_word t (i + k)) (entry_line t (i + k))
 unfolding entries_text
-entries_next t i n h = (let e : n - i ≡ suc (n - suc i) = omega arith in rw (e, add-one i))
-
-pub entries_all : (t : List ℕ) (n : ℕ) → entries_text t 0 (n - 0) ≡ entries_text t 0 n
-entries_all t n = (let e : n - 0 ≡ n = omega arith in rw e)
-
-pub entries_done : (t : List ℕ) (i n : ℕ) → n ≤ i → entries_text t i (n - i) ≡ []
-unfolding entries_text
-entries_done t i n h = (let e : n - i ≡ 0 = omega arith in rw e)
-
--- what still fits after a run of stores
-pub room_left : {a b : List ℕ} {at p : ℕ} {xs : List ℕ} (k : ℕ) → Stored a at xs b p → at + (length xs + k) ≤ length a → p + k ≤ length b
-room_left k s h = omega (arith, s.after, Stored-length s)
+entries_more t i zero = (let e : i + 0 ≡ i = omega arith in rw (e, append-nil))
+entries_more t i (suc k) =
+    let e : i + suc k ≡ suc i + k = omega arith in
+    rw (e, entries_more t (suc i) k, append_assoc)
 
 -- a text that is stored from the first byte on
 pub printed : {old new text : List ℕ} {r : ℕ} → length text ≤ length old → Stored old 0 text new r → Printed text old new r

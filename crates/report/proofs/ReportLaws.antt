@@ -34,8 +34,6 @@ use Rattle.linktext.proofs.RefusalPlaces.{network_Below}
 use Rattle.offers.specs.Lines.{number_word, entry_line}
 use Rattle.offers.proofs.TableLaws.{table_number, table_line}
 use Rattle.report.specs.declared.Told.{Told}
-use Rattle.report.specs.declared.Answer.{Answer}
-use Rattle.report.specs.declared.Answer.TheVariants as answer
 use Rattle.report.specs.Report.{word_destination, word_ring, word_joined, yes_no, quiet_or, spaced, first_line, after_first, fault_of_number, destination_in, links_behind, fault_of_report, refusal_line, lines_text, report_lines, report_of}
 use Rattle.report.specs.Printing.{Printed, entries_text, head_text, told_text}
 use Rattle.report.specs.Answers.{run_from, ending_of, told_of, answer_of, Worked}
@@ -104,22 +102,22 @@ told_report ls d run rest =
 
 -- answers -------------------------------------------------------------------------------------------------------------------
 
-answer_refused : (ls : List Link) (d : ℕ) (v : Verdict) (why : Refusal) → answer_of ls d v ≡ answer.Refused why → v ≡ Err why
+answer_refused : (ls : List Link) (d : ℕ) (v : Verdict) (why : Refusal) → answer_of ls d v ≡ Err why → v ≡ Err why
 answer_refused ls d (Ok tt) why e = cc
 answer_refused ls d (Err r) why e = cc
 
-answer_tells : (ls : List Link) (d : ℕ) (v : Verdict) (x : Told) → answer_of ls d v ≡ answer.Tells x
+answer_tells : (ls : List Link) (d : ℕ) (v : Verdict) (x : Told) → answer_of ls d v ≡ Ok x
     → (v ≡ Ok tt) × (x ≡ told_of ls (ending_of ls d (run_from ls d)))
 answer_tells ls d (Ok tt) x e = (refl, cc)
 answer_tells ls d (Err r) x e = (cc, clash (cc))
 
-module _ (t : List ℕ) {u room : List ℕ} {a : Answer} {u' room' : List ℕ}
+module _ (t : List ℕ) {u room : List ℕ} {a : Result Told Refusal} {u' room' : List ℕ}
     (w : Worked (links_behind base_limits t) (destination_in t) (fault_of_report base_limits t) u room a u' room') where
   -- a text that is printed and is the report
   reported : {out out' text : List ℕ} {r : ℕ} → text ≡ report_of base_limits t → Printed text out out' r → Reported base_limits t room out r room' out'
   reported e p = record { replies = rw (← e) p.count; written = rw (← e) p.bytes; fits = p.fits; zeroed = w.zeroed }
 
-  module _ {why : Refusal} (refuses : a ≡ answer.Refused why) where
+  module _ {why : Refusal} (refuses : a ≡ Err why) where
     verdict_refused : fault_of_report base_limits t ≡ Err why
     verdict_refused = answer_refused (links_behind base_limits t) (destination_in t) (fault_of_report base_limits t) why (sym w.replies ∙ refuses)
 
@@ -130,7 +128,7 @@ module _ (t : List ℕ) {u room : List ℕ} {a : Answer} {u' room' : List ℕ}
     unfolding report_of
     refused_report p = reported (rw verdict_refused) p
 
-  module _ {x : Told} (tells : a ≡ answer.Tells x) where
+  module _ {x : Told} (tells : a ≡ Ok x) where
     passes : (fault_of_report base_limits t ≡ Ok tt)
         × (x ≡ told_of (links_behind base_limits t) (ending_of (links_behind base_limits t) (destination_in t) (run_from (links_behind base_limits t) (destination_in t))))
     passes = answer_tells (links_behind base_limits t) (destination_in t) (fault_of_report base_limits t) x (sym w.replies ∙ tells)

@@ -11,7 +11,6 @@ use lib.Seq.{drop-append_seam}
 use borrow.Author.Tests.{le-leb}
 use Rattle.std.specs.Prelude.{Err, Ok, Result}
 use Rattle.rules.specs.Replies.{Verdict}
-use Rattle.rules.specs.declared.Limits.{Limits}
 use Rattle.rules.specs.declared.Link.{Link}
 use Rattle.rules.specs.declared.Refusal.{Refusal}
 use Rattle.rules.specs.Network.{links_of, ases_of, arcs_of}
@@ -35,8 +34,7 @@ use Rattle.machine.specs.Entries.{choice_from, fault_of_run, reply_run, run_repl
 use Rattle.machine.specs.Answers.{Answered}
 use Rattle.machine.proofs.ReplyLaws.{reply_refused, Ended, reply_Ended}
 use Rattle.report.specs.declared.Ending.{Ending}
-use Rattle.report.specs.declared.Answer.{Answer}
-use Rattle.report.specs.declared.Answer.TheVariants as answer
+use Rattle.report.specs.declared.Told.{Told}
 use Rattle.report.specs.Answers.{run_from, told_of, settled, Counted, Accepted, Worked}
 
 -- memory -------------------------------------------------------------------------------------------------------------------
@@ -72,23 +70,18 @@ module _ {ws : List ℕ} {n : ℕ} (ok : Counted ws n) (r : List ℕ) (long : le
     pub none_found : {why : Refusal} {A : Type 0} → f ≡ Err why → A
     none_found g = (let h = found_both in clash (cc))
 
-    pub tells_both : (end : Ending) {ring both : Bool} → f ≡ Ok (record { ring = ring; joined = both })
-        → answer.Tells (record { end = end; ring = ring; joined = both }) ≡ answer.Tells (told_of (links_of ws) end)
-    tells_both end {ring} {both} g =
+    pub tells_both : (end : Ending) {x : Found} → f ≡ Ok x → (let told : Result Told Refusal = Ok (record { end = end; ring = x.ring; joined = x.joined }) in
+        told ≡ Ok (told_of (links_of ws) end))
+    tells_both end {x} g =
         let h = found_both in
-        let p : ring ≡ ringed (links_of ws) = cc in
-        let q : both ≡ joined (links_of ws) = cc in
-        rw (p, q)
+        let same : x ≡ record { ring = ringed (links_of ws); joined = joined (links_of ws) } = cc in
+        ap (λ (y : Found). Ok (record { end = end; ring = y.ring; joined = y.joined })) same
 
 -- the stable table ----------------------------------------------------------------------------------------------------------
 
 cleared-length : (v : Verdict) (r : List ℕ) → length (cleared v r) ≡ length r
 cleared-length (Ok tt) r = length-replicate (length r) 0
 cleared-length (Err why) r = refl
-
-pub Tabled-room : {limits : Limits} {ws : List ℕ} {d : ℕ} {t r : List ℕ} {out : Verdict} {t' r' : List ℕ}
-    → Tabled limits ws d t r out t' r' → length r' ≡ length r
-Tabled-room {limits} {ws} {d} {t} {r} a = ap length a.zeroed ∙ cleared-length (fault_of_table limits ws d (length t) (length r)) r
 
 module _ {ws : List ℕ} {n d : ℕ} (ok : Accepted ws n d) {t r : List ℕ} {out : Verdict} {t' r' : List ℕ}
     (a : Tabled base_limits ws d t r out t' r') (table : length t ≡ 2048) (room : length r ≡ 16384) where
@@ -129,26 +122,26 @@ module _ {ws : List ℕ} {n : ℕ} (ok : Counted ws n) {d : ℕ} {t r : List ℕ
   unfolding run_reply ls
   reply_is = a.replies ∙ rw fault_is
 
-  pub run_refused : {why : Refusal} → out ≡ Err why → Worked (links_of ws) d (fault_of_destination d (ases_of (links_of ws))) t r (answer.Refused why) t' r'
+  pub run_refused : {why : Refusal} → out ≡ Err why → Worked (links_of ws) d (fault_of_destination d (ases_of (links_of ws))) t r (Err why) t' r'
   unfolding final_table run_room ls verdict
   run_refused {why} e =
       let v = reply_refused ws (run_from ls d) verdict why (sym reply_is ∙ e) in
       record { replies = rw v; tabled = a.tabled ∙ rw fault_is; zeroed = a.zeroed ∙ rw fault_is }
 
-  module _ {made idle : ℕ} {quiet : Bool} (e : out ≡ Ok (record { made = made; idle = idle; quiet = quiet })) where
-    ended : Ended ws (run_from ls d) verdict made idle quiet
-    ended = reply_Ended ws (run_from ls d) verdict made idle quiet (sym reply_is ∙ e)
+  module _ {ran : Ran} (e : out ≡ Ok ran) where
+    ended : Ended ws (run_from ls d) verdict ran.made ran.idle ran.quiet
+    ended = reply_Ended ws (run_from ls d) verdict ran.made ran.idle ran.quiet (sym reply_is ∙ e)
 
     pub run_Accepted : Accepted ws n d
     unfolding ls verdict
     run_Accepted = record { counted = ok; destination = ended.passes }
 
-    pub run_made : made ≤ 65536
+    pub run_made : ran.made ≤ 65536
     run_made = omega (arith, ended.deliveries, run_counts (arcs_of ls) d [] 65536)
 
-    pub run_told : {x : Answer} {t'' r'' : List ℕ}
-        → x ≡ answer.Tells (told_of (links_of ws) (record { destination = d; count = n; quiet = quiet; made = made }))
-        → t'' ≡ settled (links_of ws) d quiet t' → r'' ≡ replicate (length r') 0
+    pub run_told : {x : Result Told Refusal} {t'' r'' : List ℕ}
+        → x ≡ Ok (told_of (links_of ws) (record { destination = d; count = n; quiet = ran.quiet; made = ran.made }))
+        → t'' ≡ settled (links_of ws) d ran.quiet t' → r'' ≡ replicate (length r') 0
         → Worked (links_of ws) d (fault_of_destination d (ases_of (links_of ws))) t r x t'' r''
     unfolding final_table run_room ls verdict
     run_told {x} {t''} {r''} f g h =
@@ -160,6 +153,6 @@ module _ {ws : List ℕ} {n : ℕ} (ok : Counted ws n) {d : ℕ} {t r : List ℕ
         rw v
         (record {
           replies = f ∙ rw (count, ended.waits_not, ended.deliveries);
-          tabled = g ∙ ap (settled ls d quiet) lines ∙ printed_lines ls d t quiet ended.waits_not;
+          tabled = g ∙ ap (settled ls d ran.quiet) lines ∙ printed_lines ls d t ran.quiet ended.waits_not;
           zeroed = h ∙ ap (λ (k : ℕ). replicate k 0) long;
         })

@@ -10,8 +10,9 @@
 --   Counted ws n       an accepted list of link words with n ASes; Accepted ws n d   where d is one of them
 --   Worked ls d v t r a t' r'   answer, table and room where the verdict is v
 use Rattle.rules.specs.Replies.{Verdict}
-use Rattle.std.specs.Prelude.{ℕ, ◌≤◌, ◌≡◌, Bool, true, false, List, [], length, drop, Err, Ok}
+use Rattle.std.specs.Prelude.{ℕ, ◌≤◌, ◌≡◌, Bool, true, false, List, [], length, drop, Err, Ok, Result}
 use Rattle.rules.specs.declared.Link.{Link}
+use Rattle.rules.specs.declared.Refusal.{Refusal}
 use Rattle.rules.specs.Network.{links_of, ases_of, arcs_of}
 use Rattle.rules.specs.Checks.{base_limits, check_words}
 use Rattle.rules.specs.Entry.{and_then, fault_of_links, fault_of_destination, cleared, filled}
@@ -24,10 +25,8 @@ use Rattle.linktext.specs.TextNetworks.{links_of_text, fault_of_network}
 use Rattle.report.specs.Report.{first_line, after_first, fault_of_number, destination_in}
 use Rattle.report.specs.declared.Ending.{Ending}
 use Rattle.report.specs.declared.Told.{Told}
-use Rattle.report.specs.declared.Answer.{Answer}
-use Rattle.report.specs.declared.Answer.TheVariants as answer
 
--- within document 01's limits
+-- within the base limits
 abbrev pub fault_of_link_words : List ℕ → ℕ → Verdict
 fault_of_link_words ws d = and_then (fault_of_links base_limits ws) (fault_of_destination d (ases_of (links_of ws)))
 
@@ -56,9 +55,9 @@ ending_of ls d r =
 abbrev pub told_of : List Link → Ending → Told
 told_of ls e = record { end = e; ring = ringed ls; joined = joined ls }
 
-abbrev pub answer_of : List Link → ℕ → Verdict → Answer
-answer_of ls d (Ok tt) = answer.Tells (told_of ls (ending_of ls d (run_from ls d)))
-answer_of ls d (Err r) = answer.Refused r
+abbrev pub answer_of : List Link → ℕ → Verdict → Result Told Refusal
+answer_of ls d (Ok tt) = Ok (told_of ls (ending_of ls d (run_from ls d)))
+answer_of ls d (Err r) = Err r
 
 abbrev pub settled : List Link → ℕ → Bool → List ℕ → List ℕ
 settled ls d true t = filled (Ok tt) (table_of (stable_of (arcs_of ls) d) (ases_of ls)) t
@@ -71,7 +70,7 @@ pub record Accepted (ws : List ℕ) (n d : ℕ) : Type 0 where
   pub counted : Counted ws n
   pub destination : fault_of_destination d (ases_of (links_of ws)) ≡ Ok tt
 
-pub record Worked (ls : List Link) (d : ℕ) (v : Verdict) (t r : List ℕ) (a : Answer) (t' r' : List ℕ) : Type 0 where
+pub record Worked (ls : List Link) (d : ℕ) (v : Verdict) (t r : List ℕ) (a : Result Told Refusal) (t' r' : List ℕ) : Type 0 where
   pub replies : a ≡ answer_of ls d v
   pub tabled : t' ≡ filled v (table_of (run_from ls d).state.lines (ases_of ls)) t
   pub zeroed : r' ≡ cleared v r

@@ -3,16 +3,12 @@
 --   two_text x y end   two numbers with a space between, and a byte behind them
 --   entries_text t i k  the lines of k entries of the table t, from entry i on
 --   told_text x t      the report on what is told, with the lines of the table t
---   Fits bytes at k    k bytes more fit from place `at` on
 --   Printed text old new r   the bytes `new` are the text and behind it those of `old`, and r is the text's length
 use Rattle.std.specs.Prelude.{ℕ, zero, suc, ◌+◌, ◌≤◌, ◌≡◌, List, [], ◌∷◌, ◌++◌, length, drop}
 use Rattle.linktext.specs.Texts.{decimal}
 use Rattle.offers.specs.Lines.{number_word, entry_line}
 use Rattle.report.specs.declared.Told.{Told}
 use Rattle.report.specs.Report.{sp, word_destination, word_ring, word_joined, yes_no, quiet_or, spaced, line_text}
-
-abbrev pub Fits : List ℕ → ℕ → ℕ → Type 0
-Fits bytes at k = at + k ≤ length bytes
 
 pub record Printed (text old new : List ℕ) (r : ℕ) : Type 0 where
   pub bytes : new ≡ text ++ drop (length text) old

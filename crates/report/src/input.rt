@@ -8,9 +8,10 @@ ghost use Rattle.report.specs.Report.{destination_in, links_behind, fault_of_rep
 ghost use Rattle.report.specs.Answers.{fault_of_text, fault_of_lines, BehindFirst, Worked};
 
 use crate::working::answer_links;
-use crate::{Answer, ROOM_WORDS, TABLE_WORDS};
+use crate::{ROOM_WORDS, TABLE_WORDS, Told};
 use linktext::line::{find, read_number};
 use linktext::reading::read_scratch;
+use network::WORDS_PER_LINK;
 use rules::{Limits, Refusal};
 
 const LF: u8 = b'\n';
@@ -21,17 +22,12 @@ fn answer_text(
     destination: u32,
     table: &mut [u32; TABLE_WORDS],
     room: &mut [u32; ROOM_WORDS],
-) -> Answer
+) -> Result<Told, Refusal>
     ensures { Worked (links_of_text base_limits text.now) destination (fault_of_text text.now destination) table.old room.old result table.new room.new }
 {
     let mut words = [0u32; 4608];
-    match read_scratch(text, Limits::BASE, &mut words) {
-        Err(why) => Answer::Refused(why),
-        Ok(m) => {
-            let end = 3 * m;
-            answer_links(&words[..end], destination, table, room)
-        }
-    }
+    let links = read_scratch(text, Limits::BASE, &mut words)?;
+    answer_links(&words[..WORDS_PER_LINK * links], destination, table, room)
 }
 
 // Where the link text begins, behind the first line, which ends at `end`.
@@ -50,24 +46,27 @@ fn answer_lines(
     input: &[u8],
     table: &mut [u32; TABLE_WORDS],
     room: &mut [u32; ROOM_WORDS],
-) -> Answer
+) -> Result<Told, Refusal>
     ensures { Worked (links_behind base_limits input.now) (destination_in input.now) (fault_of_lines input.now) table.old room.old result table.new room.new }
 {
     let end = find(input, 0, LF);
-    let number = read_number(&input[..end]);
-    let Ok(destination) = number else {
-        return Answer::Refused(Refusal::Unreadable(0));
+    let Ok(destination) = read_number(&input[..end]) else {
+        return Err(Refusal::Unreadable(0));
     };
     let start = text_from(input, end);
     answer_text(&input[start..], destination, table, room)
 }
 
 // What is told of an input, with its lines in the table; or the refusal, which leaves table and room as they were.
-pub fn answer(input: &[u8], table: &mut [u32; TABLE_WORDS], room: &mut [u32; ROOM_WORDS]) -> Answer
+pub fn answer(
+    input: &[u8],
+    table: &mut [u32; TABLE_WORDS],
+    room: &mut [u32; ROOM_WORDS],
+) -> Result<Told, Refusal>
     ensures { Worked (links_behind base_limits input.now) (destination_in input.now) (fault_of_report base_limits input.now) table.old room.old result table.new room.new }
 {
     if Limits::BASE.text < input.len() {
-        return Answer::Refused(Refusal::OverLimit);
+        return Err(Refusal::OverLimit);
     }
     answer_lines(input, table, room)
 }

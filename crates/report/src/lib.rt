@@ -4,8 +4,6 @@
 ghost use Rattle.rules.specs.Checks.{base_limits};
 ghost use Rattle.report.specs.Entries.{Reported};
 
-use rules::Refusal;
-
 mod input;
 mod printing;
 mod working;
@@ -20,7 +18,7 @@ const TABLE_WORDS: usize = 2048;
 pub const REPORT_BYTES: usize = 22599;
 
 // What is known where the machine's run has ended: the destination, how many ASes there are, quiet or not, and the deliveries made.
-#[derive(Clone, Copy)]
+#[derive(Clone, Copy, Debug, PartialEq, Eq)]
 struct Ending {
     pub destination: u32,
     pub count: usize,
@@ -29,18 +27,11 @@ struct Ending {
 }
 
 // What the report tells: how the run ended, and the two findings.
-#[derive(Clone, Copy)]
+#[derive(Clone, Copy, Debug, PartialEq, Eq)]
 struct Told {
     pub end: Ending,
     pub ring: bool,
     pub joined: bool,
-}
-
-// What the report tells, or why the input is refused.
-#[derive(Clone, Copy)]
-enum Answer {
-    Tells(Told),
-    Refused(Refusal),
 }
 
 // The report on an input, or the line of its refusal, from byte 0 on, and how many bytes it has. The room is lent for findings, table and
@@ -50,7 +41,7 @@ pub fn report(input: &[u8], room: &mut [u32; ROOM_WORDS], out: &mut [u8; REPORT_
 {
     let mut table = [0u32; TABLE_WORDS];
     match input::answer(input, &mut table, room) {
-        Answer::Refused(why) => printing::put_refusal(out, why),
-        Answer::Tells(told) => printing::put_report(out, told, &table),
+        Ok(told) => printing::put_report(out, told, &table),
+        Err(why) => printing::put_refusal(out, why),
     }
 }

@@ -1,8 +1,7 @@
 pub mod PlaceLaws
-pub mod ReadLaws
 pub mod OrderLaws
-pub mod ReplyLaws
-pub mod WordLaws
+pub mod ReadLaws
 pub mod TableLaws
 pub mod SheetLaws
+pub mod ReplyLaws
 pub mod Unpacked

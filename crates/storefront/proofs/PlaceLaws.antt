@@ -3,14 +3,13 @@
 --
 --   Fits v             what a verdict refuses at has a place that fits
 use Prim.Native.Nat.{ℕ, suc, ◌+◌, ◌-◌, ◌%◌, ◌≤◌, ◌<◌}
-use mathlib.Core.Path.{◌≡◌, subst}
 use mathlib.Core.Bool.{Bool, ◌&&◌}
 use mathlib.Core.List.{List, [], ◌∷◌}
 use native.Mathlib.Omega.{arith}
 use lib.Dec.{ltb, leb, eqb}
 use lib.ListN.{length, get_or}
 use Rattle.rules.specs.Replies.{Verdict}
-use Rattle.std.specs.Prelude.{Err, Result}
+use Rattle.std.specs.Prelude.{Result}
 use Rattle.rules.specs.declared.Link.{Link}
 use Rattle.rules.specs.declared.Refusal.{Refusal}
 use Rattle.rules.specs.declared.Refusal.TheVariants.{OverLimit, ZeroAs, NoRelation, EqualEnds, PairAgain, TooManyAses, NoDestination, OutputShort, RoomShort, Unreadable, BrokenForm, CannotStand, NotBest, NoDirection}
@@ -48,9 +47,6 @@ number_range (NoDirection choice) = omega arith
 
 abbrev pub Fits : Verdict → Type 0
 Fits = Below 268435456
-
-pub Fits-Placed : {v : Verdict} {why : Refusal} → v ≡ Err why → Fits v → Placed why
-Fits-Placed e f = subst Fits e f
 
 pub unless-Fits : (test : Bool) (why : Refusal) → Placed why → Fits (unless test why)
 unless-Fits = unless-Below 268435456

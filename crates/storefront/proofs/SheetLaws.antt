@@ -1,19 +1,18 @@
 -- A sheet from link words: the table's refusals come first, its lines are those of the one stable routing, and what is left is whether
 -- the sheet fits.
-use Prim.Native.Nat.{ℕ, ◌+◌, ◌*◌, ◌/◌, ◌≤◌, ◌<◌}
+use Prim.Native.Nat.{ℕ, ◌+◌, ◌*◌, ◌/◌}
 use mathlib.Core.Path.{◌≡◌, sym, ◌∙◌, ap, subst}
 use mathlib.Core.List.{List}
 use native.Mathlib.Omega.{arith}
 use lib.ListN.{length, take}
 use lib.Seq.{take_at}
-use borrow.Author.Tests.{le-leb, lt-leb}
+use borrow.Author.Tests.{le-leb}
 use Rattle.rules.specs.Replies.{Verdict}
 use Rattle.std.specs.Prelude.{Err, Ok, Result}
 use Rattle.rules.specs.declared.Refusal.{Refusal}
-use Rattle.rules.specs.declared.Refusal.TheVariants.{OutputShort}
 use Rattle.rules.specs.Network.{links_of, ases_of, arcs_of}
 use Rattle.rules.specs.Checks.{base_limits, check_words}
-use Rattle.rules.specs.Entry.{and_then, fault_of_links, fault_of_destination, fault_of_output, filled}
+use Rattle.rules.specs.Entry.{and_then, verdict_of, fault_of_links, fault_of_destination, fault_of_output, filled}
 use Rattle.rules.specs.Stable.{Routing, table_of}
 use Rattle.rules.specs.Solve.{stable_of}
 use Rattle.rules.specs.Judge.{entries_of, entries_for}
@@ -22,23 +21,9 @@ use Rattle.rules.proofs.VerdictLaws.{then_assoc, then_same, then_passes}
 use Rattle.table.specs.Entries.{fault_of_table, Filled, TableAfter}
 use Rattle.table.proofs.StableLaws.{filled_words}
 use Rattle.sheet.specs.Form.{sheet_of}
-use Rattle.sheet.specs.Places.{over}
-use Rattle.storefront.specs.Page.{packed, packed_no}
-use Rattle.storefront.specs.Steps.{Placed, room_words, Stably, fault_of_lines, lines_reply, final_lines}
-use Rattle.storefront.proofs.PlaceLaws.{Fits-Placed}
-use Rattle.storefront.proofs.OrderLaws.{few_ases, room_suffices, tabled_Fits}
-use Rattle.storefront.proofs.TableLaws.{bad_links, accepted_ases}
-
--- Whether it fits -----------------------------------------------------------------------------------------------------------
-
-module _ (need : ℕ) (out bytes : List ℕ) where
-  pub too_long : length bytes < need → {r : ℕ} → r ≡ packed_no OutputShort
-      → (r ≡ packed (fault_of_output need (length bytes)) need) × (bytes ≡ filled (fault_of_output need (length bytes)) out bytes)
-  too_long h p = (p ∙ rw (lt-leb need (length bytes) h), rw (lt-leb need (length bytes) h))
-
-  pub written : need ≤ length bytes → {after : List ℕ} → after ≡ over out bytes
-      → (need ≡ packed (fault_of_output need (length bytes)) need) × (after ≡ filled (fault_of_output need (length bytes)) out bytes)
-  written h p = (rw (le-leb need (length bytes) h), p ∙ rw (le-leb need (length bytes) h))
+use Rattle.storefront.specs.Steps.{valued, room_words, Stably, fault_of_lines, told_lines, final_lines}
+use Rattle.storefront.proofs.OrderLaws.{few_ases, room_suffices}
+use Rattle.storefront.proofs.TableLaws.{accepted_ases}
 
 module _ (ws : List ℕ) (d : ℕ) where
   abbrev us : List ℕ
@@ -61,24 +46,21 @@ module _ (ws : List ℕ) (d : ℕ) where
   -- Refusals ----------------------------------------------------------------------------------------------------------------
 
   -- the lines are refused, and nothing is written
-  lines_refused : (bytes : List ℕ) (why : Refusal) → fault_of_lines ws d (length bytes) ≡ Err why → {r : ℕ} → r ≡ packed_no why
-      → (r ≡ lines_reply ws d (length bytes)) × (bytes ≡ final_lines ws d bytes)
+  lines_refused : (bytes : List ℕ) (why : Refusal) → fault_of_lines ws d (length bytes) ≡ Err why → {r : Result ℕ Refusal} → r ≡ Err why
+      → (r ≡ told_lines ws d (length bytes)) × (bytes ≡ final_lines ws d bytes)
   lines_refused bytes why e p = (p ∙ rw e, rw e)
 
-  pub no_lines : (bytes : List ℕ) {c : Result ℕ Refusal} → c ≡ check_words base_limits ws → {why : Refusal} → c ≡ Err why → {r : ℕ} → r ≡ packed_no why
-      → (r ≡ lines_reply ws d (length bytes)) × (bytes ≡ final_lines ws d bytes)
+  pub no_lines : (bytes : List ℕ) {why : Refusal} → check_words base_limits ws ≡ Err why → {r : Result ℕ Refusal} → r ≡ Err why
+      → (r ≡ told_lines ws d (length bytes)) × (bytes ≡ final_lines ws d bytes)
   unfolding fault_of_lines
-  no_lines bytes check {why} refuses = lines_refused bytes why (rw (bad_links ws check refuses))
+  no_lines bytes {why} refuses = lines_refused bytes why (rw (ap verdict_of refuses))
 
   module _ {old table : List ℕ} {r : Verdict} (long : length old ≡ 2048) (s : Stably ws d old r table) where
     verdict : {v : Verdict} → r ≡ v → fault_of_table base_limits ws d 2048 room_words ≡ v
     verdict e = ap (λ (k : ℕ). fault_of_table base_limits ws d k room_words) (sym long) ∙ sym s.replies ∙ e
 
-    pub no_table_Placed : (why : Refusal) → r ≡ Err why → Placed why
-    no_table_Placed why e = Fits-Placed (verdict e) (tabled_Fits ws d 2048)
-
-    pub no_table : (bytes : List ℕ) (why : Refusal) → r ≡ Err why → {reply : ℕ} → reply ≡ packed_no why
-        → (reply ≡ lines_reply ws d (length bytes)) × (bytes ≡ final_lines ws d bytes)
+    pub no_table : (bytes : List ℕ) (why : Refusal) → r ≡ Err why → {reply : Result ℕ Refusal} → reply ≡ Err why
+        → (reply ≡ told_lines ws d (length bytes)) × (bytes ≡ final_lines ws d bytes)
     no_table bytes why e =
         lines_refused bytes why (lines_second (length bytes) ∙ ap (λ (v : Verdict). and_then v (fault_of_output (10 + 11 * length us) (length bytes))) (verdict e))
 
@@ -99,10 +81,10 @@ module _ (ws : List ℕ) (d : ℕ) where
           ap (take (4 * n)) (filled_words (links_of ws) d old table f) ∙ take_at (table_of S us) _ (4 * n) count
 
       -- written as far as it fits, it is the sheet
-      pub sheet_made : (bytes : List ℕ) {reply : ℕ} {after : List ℕ}
-          → (reply ≡ packed (fault_of_output (10 + 11 * (length lines / 4)) (length bytes)) (10 + 11 * (length lines / 4)))
+      pub sheet_made : (bytes : List ℕ) {reply : Result ℕ Refusal} {after : List ℕ}
+          → (reply ≡ valued (fault_of_output (10 + 11 * (length lines / 4)) (length bytes)) (10 + 11 * (length lines / 4)))
           × (after ≡ filled (fault_of_output (10 + 11 * (length lines / 4)) (length bytes)) (sheet_of d (entries_of lines)) bytes)
-          → (reply ≡ lines_reply ws d (length bytes)) × (after ≡ final_lines ws d bytes)
+          → (reply ≡ told_lines ws d (length bytes)) × (after ≡ final_lines ws d bytes)
       sheet_made bytes (p, q) =
           let fault = lines_second (length bytes) ∙ ap (λ (v : Verdict). and_then v (fault_of_output (10 + 11 * length us) (length bytes))) (verdict passes) in
           let count : length lines / 4 ≡ length us = omega (arith, ap length stable_words, table_length S us) in

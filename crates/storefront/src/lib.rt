@@ -6,13 +6,9 @@ ghost use Rattle.std.specs.Prelude.{◌≡◌, length};
 ghost use Rattle.rules.specs.Checks.{base_limits};
 ghost use Rattle.storefront.specs.Page.{sheet_reply, final_sheet, judge_reply, findings_reply, run_reply, final_table};
 
-use machine::{MOST_CHOICES, MOST_DELIVERIES};
-use rules::{Limits, Refusal};
-
 pub mod links;
 mod pack;
 mod sheets;
-mod tables;
 mod text;
 mod words;
 
@@ -21,43 +17,21 @@ pub fn bostuvrel_sheet(text: &[u8], destination: u32, sheet: &mut [u8]) -> u64
     ensures reply { result ≡ sheet_reply base_limits text.now destination (length sheet.old) }
     ensures bytes { sheet.new ≡ final_sheet base_limits text.now destination sheet.old }
 {
-    let mut list = [0u32; 4608];
-    let got = text::read(text, &mut list);
-    if 0 < got.refusal {
-        return got.refusal;
-    }
-    let end = got.end;
-    sheets::make(&list[..end], destination, sheet)
+    pack::reply(text::sheet(text, destination, sheet))
 }
 
 // The judge on a sheet for the links of a text: 0 where it passes.
 pub fn bostuvrel_judge(text: &[u8], sheet: &[u8]) -> u64
     ensures { result ≡ judge_reply base_limits 511 text.now sheet.now }
 {
-    let limits = Limits::BASE;
-    if limits.sheet < sheet.len() {
-        return pack::refused(Refusal::OverLimit);
-    }
-    let mut list = [0u32; 4608];
-    let got = text::read(text, &mut list);
-    if 0 < got.refusal {
-        return got.refusal;
-    }
-    let end = got.end;
-    words::judge(&list[..end], sheet)
+    pack::reply(text::judge(text, sheet))
 }
 
 // The findings on the links of a text: 1 if a ring, plus 2 if joined.
 pub fn bostuvrel_findings(text: &[u8]) -> u64
     ensures { result ≡ findings_reply base_limits text.now }
 {
-    let mut list = [0u32; 4608];
-    let got = text::read(text, &mut list);
-    if 0 < got.refusal {
-        return got.refusal;
-    }
-    let end = got.end;
-    words::find(&list[..end])
+    pack::reply(text::find(text))
 }
 
 // A run over the links of a text: deliveries, idle choices and quiet; the table gets the lines of that moment.
@@ -71,17 +45,5 @@ pub fn bostuvrel_run(
     ensures reply { result ≡ run_reply base_limits text.now destination choices.now further (length table.old) }
     ensures table { table.new ≡ final_table base_limits text.now destination choices.now further table.old }
 {
-    if MOST_CHOICES < choices.len() {
-        return pack::refused(Refusal::OverLimit);
-    }
-    if MOST_DELIVERIES < further {
-        return pack::refused(Refusal::OverLimit);
-    }
-    let mut list = [0u32; 4608];
-    let got = text::read(text, &mut list);
-    if 0 < got.refusal {
-        return got.refusal;
-    }
-    let end = got.end;
-    words::run(&list[..end], destination, choices, further, table)
+    pack::reply(text::run(text, destination, choices, further, table))
 }

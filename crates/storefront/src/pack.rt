@@ -1,48 +1,45 @@
 // Replies as one number: the refusal number in the top byte, 0 for accepted; then the value, or the place from bit 28 on.
-ghost use Rattle.std.specs.Prelude.{◌+◌, ◌*◌, ◌≤◌, ◌≡◌};
-ghost use Rattle.storefront.specs.Page.{packed_no, findings_value, quiet_bit};
-ghost use Rattle.storefront.specs.Steps.{Placed};
+ghost use Rattle.std.specs.Prelude.{◌≡◌, ◌+◌, ◌*◌, ◌≤◌};
+ghost use Rattle.std.specs.Result.{ForErr};
+ghost use Rattle.storefront.specs.Page.{findings_value, quiet_bit};
+ghost use Rattle.storefront.specs.Steps.{Placed, packed_reply};
 
+use findings::Found;
+use machine::Ran;
 use rules::Refusal;
 
 // What one of a refusal's number counts, and one of its place.
-const NUMBER: u64 = 72057594037927936;
+const NUMBER: u64 = 1 << 56;
 
-const PLACE: u64 = 268435456;
+const PLACE: u64 = 1 << 28;
 
 // What one idle choice counts, and a quiet run.
-const IDLE: u64 = 1048576;
+const IDLE: u64 = 1 << 20;
 
-const QUIET: u64 = 1099511627776;
+const QUIET: u64 = 1 << 40;
 
-// A refusal.
-pub fn refused(why: Refusal) -> u64
-    requires { Placed why }
-    ensures { result ≡ packed_no why }
+// The value, or the refusal.
+pub fn reply(reply: Result<u64, Refusal>) -> u64
+    requires { ForErr reply Placed }
+    ensures { result ≡ packed_reply reply }
 {
-    let number = why.number();
-    let place = why.place();
-    NUMBER * (number as u64) + PLACE * (place as u64)
+    match reply {
+        Ok(value) => value,
+        Err(why) => NUMBER * u64::from(why.number()) + PLACE * (why.place() as u64),
+    }
 }
 
 // The two findings: 1 if a ring, plus 2 if joined.
-pub fn found(ring: bool, joined: bool) -> u64
-    ensures { result ≡ findings_value ring joined }
+pub fn found(found: Found) -> u64
+    ensures { result ≡ findings_value found.ring found.joined }
 {
-    if ring {
-        return if joined { 3 } else { 1 };
-    }
-    if joined { 2 } else { 0 }
+    u64::from(found.ring) + 2 * u64::from(found.joined)
 }
 
 // A run: deliveries made, idle choices, quiet or not.
-pub fn counted(made: usize, idle: usize, quiet: bool) -> u64
-    requires { (made ≤ 131072) × (idle ≤ 65536) }
-    ensures { result ≡ made + 1048576 * idle + quiet_bit quiet }
+pub fn counted(ran: Ran) -> u64
+    requires { (ran.made ≤ 131072) × (ran.idle ≤ 65536) }
+    ensures { result ≡ ran.made + 1048576 * ran.idle + quiet_bit ran.quiet }
 {
-    let counts = (made as u64) + IDLE * (idle as u64);
-    if quiet {
-        return counts + QUIET;
-    }
-    counts
+    ran.made as u64 + IDLE * (ran.idle as u64) + QUIET * u64::from(ran.quiet)
 }

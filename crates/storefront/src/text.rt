@@ -1,32 +1,78 @@
-// A link text read into words, three per link: what every exported function over a text begins with.
-ghost use Rattle.std.specs.Prelude.{◌≤◌, length};
-ghost use Rattle.storefront.specs.Steps.{ReadText};
+// What is asked of a link text: it is read into words, three per link, and the rest is asked of these.
+ghost use Rattle.std.specs.Prelude.{◌≡◌, length};
+ghost use Rattle.rules.specs.Checks.{base_limits};
+ghost use Rattle.storefront.specs.Page.{final_sheet, final_table};
+ghost use Rattle.storefront.specs.Steps.{ReadText, told_sheet, told_judging, told_findings, told_run};
 
-use super::pack;
-use linktext::reading;
+use super::{pack, sheets, words};
+use linktext::reading::read_scratch;
+use machine::{MOST_CHOICES, MOST_DELIVERIES};
 use network::WORDS_PER_LINK;
-use rules::Limits;
+use rules::{Limits, Refusal};
 
-// What a text comes to: its refusal, packed, 0 for none; and where its links' words end.
-#[derive(Clone, Copy)]
-pub struct Reading {
-    pub refusal: u64,
-    pub end: usize,
+// The words of the most links.
+const LIST_WORDS: usize = 4608;
+
+// The words of the text's links stand first, up to the replied end; or the text's refusal.
+fn read(text: &[u8], list: &mut [u32; LIST_WORDS]) -> Result<usize, Refusal>
+    ensures { ReadText text.now result list.new }
+{
+    Ok(WORDS_PER_LINK * read_scratch(text, Limits::BASE, list)?)
 }
 
-// The words of the text's links stand first; or the text's refusal.
-pub fn read(text: &[u8], words: &mut [u32]) -> Reading
-    requires { 4608 ≤ length words.old }
-    ensures { ReadText text.now result words.new }
+// The sheet of the stable table: the number of bytes written.
+pub fn sheet(text: &[u8], destination: u32, sheet: &mut [u8]) -> Result<u64, Refusal>
+    ensures reply { result ≡ told_sheet text.now destination (length sheet.old) }
+    ensures bytes { sheet.new ≡ final_sheet base_limits text.now destination sheet.old }
 {
-    match reading::read_scratch(text, Limits::BASE, words) {
-        Ok(m) => Reading {
-            refusal: 0,
-            end: WORDS_PER_LINK * m,
-        },
-        Err(why) => Reading {
-            refusal: pack::refused(why),
-            end: 0,
-        },
+    let mut list = [0u32; LIST_WORDS];
+    let end = read(text, &mut list)?;
+    sheets::make(&list[..end], destination, sheet)
+}
+
+// The judge on a sheet: 0 where it passes.
+pub fn judge(text: &[u8], sheet: &[u8]) -> Result<u64, Refusal>
+    ensures { result ≡ told_judging text.now sheet.now }
+{
+    let limits = Limits::BASE;
+    if limits.sheet < sheet.len() {
+        return Err(Refusal::OverLimit);
     }
+    let mut list = [0u32; LIST_WORDS];
+    let end = read(text, &mut list)?;
+    words::judge(&list[..end], sheet)?;
+    Ok(0)
+}
+
+// The findings: 1 if a ring, plus 2 if joined.
+pub fn find(text: &[u8]) -> Result<u64, Refusal>
+    ensures { result ≡ told_findings text.now }
+{
+    let mut list = [0u32; LIST_WORDS];
+    let end = read(text, &mut list)?;
+    let found = words::find(&list[..end])?;
+    Ok(pack::found(found))
+}
+
+// A run: deliveries, idle choices and quiet; the table gets the lines of that moment.
+pub fn run(
+    text: &[u8],
+    destination: u32,
+    choices: &[u32],
+    further: u32,
+    table: &mut [u32],
+) -> Result<u64, Refusal>
+    ensures reply { result ≡ told_run text.now destination choices.now further (length table.old) }
+    ensures table { table.new ≡ final_table base_limits text.now destination choices.now further table.old }
+{
+    if MOST_CHOICES < choices.len() {
+        return Err(Refusal::OverLimit);
+    }
+    if MOST_DELIVERIES < further {
+        return Err(Refusal::OverLimit);
+    }
+    let mut list = [0u32; LIST_WORDS];
+    let end = read(text, &mut list)?;
+    let ran = words::run(&list[..end], destination, choices, further, table)?;
+    Ok(pack::counted(ran))
 }

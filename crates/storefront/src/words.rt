@@ -1,65 +1,73 @@
-// Check, judge, findings and machine on link words, each in a room of its own where it takes one, with the reply packed.
-ghost use Rattle.std.specs.Prelude.{◌≡◌, length, Ok};
-ghost use Rattle.rules.specs.Checks.{base_limits, check_words};
-ghost use Rattle.machine.specs.Entries.{final_table};
-ghost use Rattle.storefront.specs.Page.{check_reply};
-ghost use Rattle.storefront.specs.Steps.{room_words, found_reply, judged_reply, ran_reply};
+// Judge, findings, machine and stable table on link words, each in a room of its own, which always suffices.
+// Kept: a room in each of the four; a closure over one room is no shorter, for its contract would say what each leaves in lent memory again.
+ghost use Rattle.std.specs.Prelude.{◌≡◌, length};
+ghost use Rattle.rules.specs.Checks.{base_limits};
+ghost use Rattle.findings.specs.Entries.{findings_reply};
+ghost use Rattle.sheet.specs.Entries.{judge_reply};
+ghost use Rattle.machine.specs.Entries.{run_reply, final_table};
+ghost use Rattle.storefront.specs.Steps.{room_words, Stably, Tabulated};
 
-use super::pack;
 use findings::Found;
 use machine::Ran;
+use network::Network;
+use rules::Refusal;
+use sheet::rows::WORDS_PER_LINE;
 
-// The check of the links: the number of their ASes.
-pub fn check(words: &[u32]) -> u64
-    ensures { result ≡ check_reply base_limits words.now }
-{
-    match network::check_links(words) {
-        Ok(n) => n as u64,
-        Err(why) => pack::refused(why),
-    }
-}
+// The room's words.
+const ROOM_WORDS: usize = 16384;
 
 // The judge on a sheet for the links.
-pub fn judge(words: &[u32], sheet: &[u8]) -> u64
-    ensures { result ≡ judged_reply words.now sheet.now }
+pub fn judge(words: &[u32], sheet: &[u8]) -> Result<(), Refusal>
+    ensures { result ≡ judge_reply base_limits 511 words.now sheet.now room_words }
 {
-    let mut room = [0u32; 16384];
-    match judge::judge_sheet(words, sheet, &mut room) {
-        Ok(()) => 0,
-        Err(why) => pack::refused(why),
-    }
+    let mut room = [0u32; ROOM_WORDS];
+    judge::judge_sheet(words, sheet, &mut room)
 }
 
 // The findings on the links.
-pub fn find(words: &[u32]) -> u64
-    ensures { result ≡ found_reply words.now }
+pub fn find(words: &[u32]) -> Result<Found, Refusal>
+    ensures { result ≡ findings_reply base_limits words.now room_words }
 {
-    match network::check_links(words) {
-        Ok(n) => find_for(words, n),
-        Err(fault) => pack::refused(fault),
-    }
+    find_in(Network::check(words)?)
 }
 
-// The same for accepted links with n ASes: the check is over when the room is there.
-fn find_for(words: &[u32], n: usize) -> u64
-    requires { check_words base_limits words.now ≡ Ok n }
-    ensures { result ≡ found_reply words.now }
+// The findings on an accepted network.
+// Kept: a function of its own, so that the check's memory is free when the room is taken: the stack is fixed.
+fn find_in(network: Network<'_>) -> Result<Found, Refusal>
+    ensures { result ≡ findings_reply base_limits network.entry.words.now room_words }
 {
-    let mut room = [0u32; 16384];
-    match findings::find_accepted(words, n, &mut room) {
-        Ok(Found { ring, joined }) => pack::found(ring, joined),
-        Err(why) => pack::refused(why),
-    }
+    let mut room = [0u32; ROOM_WORDS];
+    findings::find_accepted(network.words, network.ases, &mut room)
 }
 
 // A run over the links; the table gets the lines of that moment.
-pub fn run(words: &[u32], destination: u32, choices: &[u32], further: u32, table: &mut [u32]) -> u64
-    ensures reply { result ≡ ran_reply words.now destination choices.now further (length table.old) }
+pub fn run(
+    words: &[u32],
+    destination: u32,
+    choices: &[u32],
+    further: u32,
+    table: &mut [u32],
+) -> Result<Ran, Refusal>
+    ensures reply { result ≡ run_reply base_limits words.now destination choices.now further (length table.old) room_words }
     ensures table { table.new ≡ final_table base_limits words.now destination choices.now further table.old room_words }
 {
-    let mut room = [0u32; 16384];
-    match machine::run(words, destination, choices, further, table, &mut room) {
-        Ok(Ran { made, idle, quiet }) => pack::counted(made, idle, quiet),
-        Err(why) => pack::refused(why),
-    }
+    let mut room = [0u32; ROOM_WORDS];
+    machine::run(words, destination, choices, further, table, &mut room)
+}
+
+// The stable table of the links to the destination: the number of its words, four per AS.
+pub fn stable_table(words: &[u32], destination: u32, table: &mut [u32]) -> Result<u64, Refusal>
+    ensures { Tabulated words.now destination table.old result table.new }
+{
+    let network = Network::check(words)?;
+    tabulate(network, destination, table)?;
+    Ok((WORDS_PER_LINE * network.ases) as u64)
+}
+
+// The stable table of an accepted network.
+pub fn tabulate(network: Network<'_>, destination: u32, table: &mut [u32]) -> Result<(), Refusal>
+    ensures { Stably network.entry.words.now destination table.old result table.new }
+{
+    let mut room = [0u32; ROOM_WORDS];
+    table::accepted_table(network.words, destination, table, &mut room)
 }

@@ -1,7 +1,7 @@
--- `bostuvrel_findings`: the words are those of the text's links, or the text is refused.
-use Rattle.std.proofs.Common.{◌∙◌}
-use Rattle.storefront.proofs.ReplyLaws.{found_given}
+-- `bostuvrel_findings`: every place that is refused at fits.
+use Rattle.storefront.proofs.OrderLaws.{text_fits}
+use Rattle.storefront.proofs.ReplyLaws.{valued_Placed}
 use Rattle.storefront.proofs.bostuvrel_findings.Goals as goal
 
-pub returns : goal.returns
-returns c = c.find.ensures ∙ found_given _ _ (c.read-got.ensures.given c.if-got-gt0.false)
+pub reply-requires : goal.reply-requires
+reply-requires c = valued_Placed _ _ c.find.ensures (text_fits c.args.text.now)

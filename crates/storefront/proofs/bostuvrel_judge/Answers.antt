@@ -1,15 +1,7 @@
--- `bostuvrel_judge`: the sheet's limit first; then the words are those of the text's links, or the text is refused.
-use Rattle.std.proofs.Common.{◌∙◌}
-use Rattle.storefront.proofs.ReplyLaws.{judged_long, judged_given, judged_unread}
+-- `bostuvrel_judge`: every place that is refused at fits.
+use Rattle.storefront.proofs.OrderLaws.{judging_Fits}
+use Rattle.storefront.proofs.ReplyLaws.{valued_Placed}
 use Rattle.storefront.proofs.bostuvrel_judge.Goals as goal
 
-pub returns-then-limits-sheet : goal.returns-then-limits-sheet
-returns-then-limits-sheet c = c.refused.ensures ∙ judged_long _ _ c.if-limits-sheet.true
-
-pub returns-then-got-gt0 : goal.returns-then-got-gt0
-returns-then-got-gt0 c =
-    let u = c.read-got.ensures.unread c.if-got-gt0.true in
-    u.packs ∙ judged_unread _ _ u.fault _ c.if-limits-sheet.false
-
-pub returns : goal.returns
-returns c = c.judge.ensures ∙ judged_given _ _ (c.read-got.ensures.given c.if-got-gt0.false) _ c.if-limits-sheet.false
+pub reply-requires : goal.reply-requires
+reply-requires c = valued_Placed _ _ c.judge.ensures (judging_Fits c.args.text.now c.args.sheet.now)

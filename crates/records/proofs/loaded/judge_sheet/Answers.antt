@@ -1,7 +1,8 @@
--- `records::loaded::judge_sheet` meets its contract: too many links are refused as every list of too many is, and few are the words lent.
+-- `records::loaded::judge_sheet` meets its contract: too many links are refused as every list of too many is.
+use Rattle.std.proofs.Common.{rules}
 use Rattle.records.proofs.Laws.{Holding-many}
 use Rattle.records.proofs.ManyLaws.{Judged-many}
 use Rattle.records.proofs.loaded.judge_sheet.Goals as goal
 
-pub returns-then-n-gt-MOST_LINKS : goal.returns-then-n-gt-MOST_LINKS
-returns-then-n-gt-MOST_LINKS c = Holding-many _ _ c.if-n-gt-MOST_LINKS.true (λ ls g. Judged-many ls g _ _)
+pub returns-in_err-link_words : goal.returns-in_err-link_words
+returns-in_err-link_words c = (let h = c.in_err-link_words.ensures in let e = c.from_residual.ensures in search (rules, Holding-many, Judged-many))

@@ -1,7 +1,12 @@
--- `records::loaded::write_sheet` meets its contract: too many links are refused as every list of too many is, and few are the words lent.
-use Rattle.records.proofs.Laws.{Holding-many}
+-- `records::loaded::write_sheet` meets its contract: too many links are refused as every list of too many is.
+use Rattle.std.proofs.Common.{◌≡◌, rules}
+use Rattle.std.specs.Prelude.{Err}
+use Rattle.records.specs.Entries.{SheetWritten}
+use Rattle.records.proofs.Laws.{Holding-refused}
 use Rattle.records.proofs.ManyLaws.{sheet_many}
 use Rattle.records.proofs.loaded.write_sheet.Goals as goal
 
-pub returns-then-n-gt-MOST_LINKS : goal.returns-then-n-gt-MOST_LINKS
-returns-then-n-gt-MOST_LINKS c = Holding-many _ _ c.if-n-gt-MOST_LINKS.true (λ ls g. sheet_many ls g _ _ _)
+pub returns-in_err-link_words : goal.returns-in_err-link_words
+returns-in_err-link_words c =
+    let passed : c.from_residual.result ≡ Err c.in_err-link_words.field-0.0 = search rules in
+    Holding-refused _ (λ r ws. SheetWritten ws c.args.destination c.args.table.now c.args.bytes.now r c.args.bytes.now) c.in_err-link_words.ensures passed (λ ls g. sheet_many ls g _ _ _)

@@ -16,11 +16,11 @@ returns-in_default c =
     let A = c.args in
     let f = c.find-end in
     let here : f.result ≡ place_of lf A.input.now = omega arith in
-    refuses (no_number A.input.now here c.read_number-number.ensures (_, c.in_default.is))
+    refuses (no_number A.input.now here c.read_number.ensures (_, c.in_default.is))
 
 pub returns : goal.returns
 returns c =
     let A = c.args in
     let f = c.find-end in
     let here : f.result ≡ place_of lf A.input.now = omega arith in
-    a_number A.input.now here c.read_number-number.ensures c.in-Ok.is c.text_from-start.ensures c.answer_text.ensures
+    a_number A.input.now here c.read_number.ensures c.in-Ok.is c.text_from-start.ensures c.answer_text.ensures

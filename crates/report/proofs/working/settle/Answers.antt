@@ -5,5 +5,5 @@ use Rattle.report.proofs.working.settle.Goals as goal
 
 pub returns-then-end-clause-table_after : goal.returns-then-end-clause-table_after
 returns-then-end-clause-table_after c =
-    let e = settles c.requires c.stable_table.ensures (omega arith) (omega arith) in
+    let e = settles c.requires c.accepted_table.ensures (omega arith) (omega arith) in
     rw c.if-end.true e

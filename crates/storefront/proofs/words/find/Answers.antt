@@ -1,10 +1,10 @@
--- `words::find`: links that are refused, or the findings on accepted ones.
-use Rattle.std.proofs.Common.{◌∙◌}
-use Rattle.storefront.proofs.TableLaws.{bad_links_Placed, find_refuses}
+-- `words::find`: links that are refused have no findings.
+use Rattle.std.proofs.Common.{◌≡◌, rules}
+use Rattle.std.specs.Prelude.{Err}
+use Rattle.storefront.proofs.TableLaws.{not_found}
 use Rattle.storefront.proofs.words.find.Goals as goal
 
-pub refused-requires : goal.refused-requires
-refused-requires c = (bad_links_Placed _ c.check_links.ensures c.in-Err.is)
-
-pub returns-in-Err : goal.returns-in-Err
-returns-in-Err c = (c.refused.ensures ∙ find_refuses _ c.check_links.ensures c.in-Err.is)
+pub returns-in_err-check : goal.returns-in_err-check
+returns-in_err-check c =
+    let passed : c.from_residual.result ≡ Err c.in_err-check.field-0.0 = search rules in
+    not_found _ c.in_err-check.ensures passed

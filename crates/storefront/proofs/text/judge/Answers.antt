@@ -1,0 +1,26 @@
+-- `text::judge`: a sheet that is too long, a text that is refused, or the words of the text's links.
+use Rattle.std.proofs.Common.{◌≡◌, sym, ◌∙◌, ap, rules, arith}
+use Rattle.std.specs.Prelude.{Err}
+use Rattle.rules.specs.Replies.{Verdict}
+use Rattle.storefront.specs.Steps.{valued}
+use Rattle.storefront.proofs.ReplyLaws.{judged_long, judged_unread, judged_given, valued-refused}
+use Rattle.storefront.proofs.text.judge.Goals as goal
+
+pub returns-then-limits-sheet : goal.returns-then-limits-sheet
+returns-then-limits-sheet c = judged_long _ _ c.if-limits-sheet.true
+
+pub returns-in_err-end : goal.returns-in_err-end
+returns-in_err-end c =
+    let passed : c.from_residual.result ≡ Err c.in_err-end.field-0.0 = search rules in
+    judged_unread _ c.in_err-end.ensures passed _ (omega arith)
+
+pub returns-in_err-judge : goal.returns-in_err-judge
+returns-in_err-judge c =
+    let passed : c.from_residual-in_err-judge.result ≡ Err c.in_err-judge.field-0.0 = search rules in
+    let read = c.in_ok-end.ensures in
+    valued-refused _ (sym (judged_given _ _ read.given c.args.sheet.now (omega arith)) ∙ sym c.in_err-judge.ensures) passed
+
+pub returns : goal.returns
+returns c =
+    let read = c.in_ok-end.ensures in
+    ap (λ (v : Verdict). valued v 0) (c.in_ok-judge.ensures ∙ judged_given _ _ read.given c.args.sheet.now (omega arith))

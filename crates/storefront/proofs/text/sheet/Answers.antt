@@ -1,0 +1,19 @@
+-- `text::sheet`: a text that is refused, or the words of the text's links.
+use Rattle.std.proofs.Common.{◌≡◌, refl, rules}
+use Rattle.std.specs.Prelude.{Err}
+use Rattle.storefront.proofs.ReplyLaws.{sheet_unread, sheet_given_lem}
+use Rattle.storefront.proofs.text.sheet.Goals as goal
+
+pub returns-in_err-end-clause-reply : goal.returns-in_err-end-clause-reply
+returns-in_err-end-clause-reply c =
+    let passed : c.from_residual.result ≡ Err c.in_err-end.field-0.0 = search rules in
+    (sheet_unread _ c.in_err-end.ensures passed c.args.destination c.args.sheet.now).0
+
+pub returns-in_err-end-clause-bytes : goal.returns-in_err-end-clause-bytes
+returns-in_err-end-clause-bytes c = (sheet_unread _ c.in_err-end.ensures refl c.args.destination c.args.sheet.now).1
+
+pub returns-clause-reply : goal.returns-clause-reply
+returns-clause-reply c = (let read = c.in_ok-end.ensures in sheet_given_lem _ _ read.given _ c.args.sheet.now (c.make.ensures.reply, c.make.ensures.bytes)).0
+
+pub returns-clause-bytes : goal.returns-clause-bytes
+returns-clause-bytes c = (let read = c.in_ok-end.ensures in sheet_given_lem _ _ read.given _ c.args.sheet.now (c.make.ensures.reply, c.make.ensures.bytes)).1
