@@ -4,10 +4,9 @@ use mathlib.Core.Path.{◌≡◌, refl, sym, ◌∙◌, ap, subst}
 use mathlib.Core.Bool.{Bool, true, false, cond, not}
 use mathlib.Core.List.{List, [], ◌∷◌, ◌++◌}
 use native.Mathlib.Omega.{arith}
-use native.Mathlib.Numerals.{add-one}
 use lib.Dec.{ltb, leb}
-use lib.ListN.{length, get_or, take, drop, replicate, drop_of_length-le}
-use lib.Seq.{drop-cons, get_or-take, length-take-le}
+use lib.ListN.{length, get_or, take, drop, replicate}
+use lib.Seq.{get_or-take, length-take-le}
 use borrow.Author.Tests.{lt-ltb, le-ltb, ltb-true, le-leb, lt-leb}
 use Rattle.rules.specs.Replies.{Verdict}
 use Rattle.std.specs.Prelude.{Err, Ok, Result}
@@ -39,28 +38,21 @@ use Rattle.machine.proofs.RunLaws.{quiet_here, lowest_here}
 
 -- Choices -------------------------------------------------------------------------------------------------------------------------
 
--- the first i choices are directions
-pub record ChoicesTo (directions : ℕ) (cs : List ℕ) (i : ℕ) : Type 0 where
-  pub rest : choice_from directions i (drop i cs) ≡ fault_of_choices directions cs
+-- the first fault, where it is known
+pub choices_first : (directions j : ℕ) (cs : List ℕ) (i p : ℕ) → p ≡ j + i → i < length cs → directions ≤ get_or cs i 0
+    → ((k : ℕ) → k < i → get_or cs k 0 < directions) → Err (NoDirection p) ≡ choice_from directions j cs
+unfolding choice_from
+choices_first directions j [] i p e h bad good = absurd (omega arith)
+choices_first directions j (c ∷ cs) zero p e h bad good = (let f : p ≡ j = omega arith in rw (f, le-ltb c directions bad) refl)
+choices_first directions j (c ∷ cs) (suc i) p e h bad good =
+    rw (lt-ltb c directions (good 0 (omega arith)))
+    (choices_first directions (suc j) cs i p (omega arith) (omega arith) bad (λ k l. good (suc k) (omega arith)))
 
-pub choices_none : (directions : ℕ) (cs : List ℕ) → ChoicesTo directions cs 0
-choices_none directions cs = record { rest = refl }
-
-module _ {directions : ℕ} {cs : List ℕ} {i : ℕ} (g : ChoicesTo directions cs i) where
-  next : i < length cs → fault_of_choices directions cs
-      ≡ cond (ltb (get_or cs i 0) directions) (choice_from directions (suc i) (drop (suc i) cs)) (Err (NoDirection i))
-  unfolding choice_from
-  next h = sym g.rest ∙ ap (choice_from directions i) (drop-cons cs i 0 h)
-
-  pub choices_bad : i < length cs → directions ≤ get_or cs i 0 → Err (NoDirection i) ≡ fault_of_choices directions cs
-  choices_bad h bad = sym (next h ∙ rw (le-ltb (get_or cs i 0) directions bad))
-
-  pub choices_more : i < length cs → get_or cs i 0 < directions → ChoicesTo directions cs (i + 1)
-  choices_more h good = record { rest = rw add-one (sym (next h ∙ rw (lt-ltb (get_or cs i 0) directions good))) }
-
-  pub choices_all : length cs ≤ i → Ok tt ≡ fault_of_choices directions cs
-  unfolding choice_from
-  choices_all h = ap (choice_from directions i) (sym (drop_of_length-le cs h)) ∙ g.rest
+pub choices_none_bad : (directions j : ℕ) (cs : List ℕ) → ((k : ℕ) → k < length cs → get_or cs k 0 < directions) → Ok tt ≡ choice_from directions j cs
+unfolding choice_from
+choices_none_bad directions j [] good = refl
+choices_none_bad directions j (c ∷ cs) good =
+    rw (lt-ltb c directions (good 0 (omega arith))) (choices_none_bad directions (suc j) cs (λ k l. good (suc k) (omega arith)))
 
 choices_good : (directions j : ℕ) (cs : List ℕ) → choice_from directions j cs ≡ Ok tt → (i : ℕ) → i < length cs → get_or cs i 0 < directions
 unfolding choice_from

@@ -1,5 +1,6 @@
 // The refusals in their order, each before a lent word is written, and then the run.
-ghost use Rattle.std.specs.Prelude.{◌≡◌, ◌≤◌, length};
+ghost use Rattle.std.specs.Prelude.{◌≡◌, ◌≤◌, ◌<◌, length, MatchOption};
+ghost use Rattle.std.specs.List.{AllWithin, HoldsAt};
 ghost use Rattle.network.specs.Promises.{count_of};
 ghost use Rattle.machine.specs.Entries.{fault_of_choices};
 ghost use Rattle.machine.specs.Answers.{NetworkAnswer, MemoryAnswer, Located, Driving, Driven};
@@ -10,16 +11,21 @@ use network::Network;
 use offers::WORDS_PER_ENTRY;
 use rules::{Refusal, TypeLength};
 
+// Where the first choice stands that is no direction.
+fn first_fault(choices: &[u32], directions: usize) -> Option<usize>
+    ensures { MatchOption result (AllWithin (λ k. k < directions) choices.now 0 (length choices.now)) (λ i. (i < length choices.now) × HoldsAt (λ k. directions ≤ k) choices.now i × AllWithin (λ k. k < directions) choices.now 0 i) }
+{
+    choices.iter().position(|k| directions <= *k as usize)
+}
+
 // Refusal 13: the first choice that is no direction.
 fn choice_fault(choices: &[u32], directions: usize) -> Result<(), Refusal>
     ensures { result ≡ fault_of_choices directions choices.now }
 {
-    for (i, k) in choices.iter().enumerate() {
-        if directions <= *k as usize {
-            return Err(Refusal::NoDirection(i));
-        }
+    match first_fault(choices, directions) {
+        Some(i) => Err(Refusal::NoDirection(i)),
+        None => Ok(()),
     }
-    Ok(())
 }
 
 // The run of an input that passes: the fresh start, the choices, the further deliveries.
