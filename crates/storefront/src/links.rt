@@ -1,7 +1,7 @@
 // What the server calls with link records: they are loaded once, and what is said is said of their words.
 ghost use Rattle.std.specs.Prelude.{◌≡◌};
 ghost use Rattle.rules.specs.Network.{flat};
-ghost use Rattle.rules.specs.Checks.{base_limits};
+ghost use Rattle.rules.specs.Checks.{base_limits, check_words};
 ghost use Rattle.storefront.specs.Page.{check_reply, PageTabled};
 ghost use Rattle.storefront.specs.Steps.{Tabulated};
 
@@ -12,7 +12,14 @@ use rules::{Link, Refusal};
 pub fn bostuvrel_check(links: &[Link]) -> u64
     ensures { result ≡ check_reply base_limits (flat links.now) }
 {
-    pack::reply(records::check_links(links).map(|n| n as u64))
+    pack::reply(check(links))
+}
+
+// The same before it is packed.
+fn check(links: &[Link]) -> Result<u64, Refusal>
+    ensures { result ≡ check_words base_limits (flat links.now) }
+{
+    Ok(records::check_links(links)? as u64)
 }
 
 // The stable table of link records: the number of table words written, four per AS.

@@ -1,6 +1,6 @@
 -- `bostuvrel_check`: the number of ASes, or the refusal, and its place fits.
-use Rattle.std.proofs.Common.{◌≡◌, ◌∙◌, ap, length, rules}
-use Rattle.rules.specs.Checks.{base_limits, check_words}
+use Rattle.std.proofs.Common.{◌∙◌, ap, length}
+use Rattle.rules.specs.Checks.{base_limits}
 use Rattle.rules.specs.Network.{flat, links_of, ases_of}
 use Rattle.rules.specs.Entry.{fault_of_links}
 use Rattle.storefront.specs.Page.{check_reply}
@@ -11,13 +11,10 @@ use Rattle.storefront.proofs.TableLaws.{check_told}
 use Rattle.storefront.proofs.links.bostuvrel_check.Goals as goal
 
 pub reply-requires : goal.reply-requires
-reply-requires c =
-    let same : c.map.result ≡ check_words base_limits (flat c.args.links.now) = search rules in
-    valued_Placed _ _ (check_told _ same) (links_fit _)
+reply-requires c = valued_Placed _ _ (check_told _ c.check.ensures) (links_fit _)
 
 pub returns : goal.returns
 unfolding check_reply
 returns c =
     let ws = flat c.args.links.now in
-    let same : c.map.result ≡ check_words base_limits (flat c.args.links.now) = search rules in
-    c.reply.ensures ∙ ap packed_reply (check_told _ same) ∙ packs (fault_of_links base_limits ws) (length (ases_of (links_of ws)))
+    c.reply.ensures ∙ ap packed_reply (check_told _ c.check.ensures) ∙ packs (fault_of_links base_limits ws) (length (ases_of (links_of ws)))
