@@ -2,10 +2,12 @@
 ghost use Rattle.std.specs.Prelude.{◌≡◌};
 ghost use Rattle.rules.specs.Network.{flat};
 ghost use Rattle.rules.specs.Checks.{base_limits, check_words};
+ghost use Rattle.records.specs.Entries.{Holding};
 ghost use Rattle.storefront.specs.Page.{check_reply, PageTabled};
 ghost use Rattle.storefront.specs.Steps.{Tabulated};
 
 use super::{pack, words};
+use records::Words;
 use rules::{Link, Refusal};
 
 // The check of link records: the number of their ASes.
@@ -26,13 +28,13 @@ fn check(links: &[Link]) -> Result<u64, Refusal>
 pub fn bostuvrel_table(links: &[Link], destination: u32, table: &mut [u32]) -> u64
     ensures { PageTabled base_limits (flat links.now) destination table.old result table.new }
 {
-    pack::reply(tabulate(links, destination, table))
+    pack::reply(tabulate(records::load(links), destination, table))
 }
 
-// The same before it is packed.
-fn tabulate(links: &[Link], destination: u32, table: &mut [u32]) -> Result<u64, Refusal>
-    ensures { Tabulated (flat links.now) destination table.old result table.new }
+// The same of loaded links, before it is packed.
+// Kept: the links' words are handed on by value: so they lie on the stack once.
+fn tabulate(list: Words, destination: u32, table: &mut [u32]) -> Result<u64, Refusal>
+    ensures { Holding list (λ ws. Tabulated ws destination table.old result table.new) }
 {
-    let list = records::load(links);
     words::stable_table(list.link_words()?, destination, table)
 }
