@@ -58,12 +58,14 @@ fn to_words(links: &[Link], words: &mut [u32])
 pub fn load(links: &[Link]) -> Words
     ensures { result ≡ loaded links.now }
 {
-    let mut words = [0u32; 4608];
-    let count = links.len();
-    if count <= MOST_LINKS {
-        to_words(links, &mut words);
+    let mut loaded = Words {
+        count: links.len(),
+        words: [0; 4608],
+    };
+    if loaded.count <= MOST_LINKS {
+        to_words(links, &mut loaded.words);
     }
-    Words { count, words }
+    loaded
 }
 
 // The number of the links' ASes, or the first refusal of 1 to 6.

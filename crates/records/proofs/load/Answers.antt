@@ -3,5 +3,5 @@ use Rattle.std.proofs.Common.{length}
 use borrow.Author.Tests.{lt-leb}
 use Rattle.records.proofs.load.Goals as goal
 
-pub returns-else-count-le-MOST_LINKS : goal.returns-else-count-le-MOST_LINKS
-returns-else-count-le-MOST_LINKS c = rw (lt-leb (length c.args.links.now) 1536 c.if-count-le-MOST_LINKS.false)
+pub returns-else-loaded-le-MOST_LINKS : goal.returns-else-loaded-le-MOST_LINKS
+returns-else-loaded-le-MOST_LINKS c = rw (lt-leb (length c.args.links.now) 1536 c.if-loaded-le-MOST_LINKS.false)
