@@ -11,10 +11,10 @@ const CUSTOMERS: usize = scratch::LINKS;
 // How many words the index has.
 const INDEX: usize = CUSTOMERS + ASES;
 
-// Places of ASes that wait, the latest on top.
+// Places of ASes that wait, the latest on top. Half words, as counts below: the stack is small.
 #[derive(Drop)]
 struct Stack {
-    places: [u32; ASES],
+    places: [u16; ASES],
     height: usize,
     ghost fits: { height ≤ 512 },
 }
@@ -25,13 +25,13 @@ impl Stack {
         requires { place < 512 }
     {
         if self.height < ASES {
-            self.places[self.height] = place as u32;
+            self.places[self.height] = place as u16;
             self.height += 1;
         }
     }
 
     // The one on top, taken off.
-    fn pop(&mut self) -> Option<u32> {
+    fn pop(&mut self) -> Option<u16> {
         let top = self.height.checked_sub(1)?;
         self.height = top;
         Some(self.places[top])
@@ -42,7 +42,7 @@ impl Stack {
 #[derive(Drop)]
 struct Guess {
     index: [u32; INDEX],
-    customers: [u32; ASES],
+    customers: [u16; ASES],
     bare: Stack,
 }
 
@@ -77,8 +77,9 @@ impl Guess {
     }
 
     // The AS at a place is taken away from its providers.
-    fn take(&mut self, survey: &Survey<'_>, place: u32) {
-        let mut noted = scratch::at(&self.index, scratch::head_of(CUSTOMERS, place));
+    fn take(&mut self, survey: &Survey<'_>, place: u16) {
+        let head = scratch::head_of(CUSTOMERS, u32::from(place));
+        let mut noted = scratch::at(&self.index, head);
         while 0 < noted {
             let i = (noted - 1) as usize;
             if i < survey.network.links() {
@@ -107,7 +108,7 @@ pub fn ranks(survey: &Survey<'_>) -> [u32; ASES] {
         let Some(place) = guess.bare.pop() else {
             return ranks;
         };
-        scratch::put(&mut ranks, place as usize, rank);
+        scratch::put(&mut ranks, usize::from(place), rank);
         guess.take(survey, place);
     }
     ranks
