@@ -91,8 +91,8 @@ impl Guess {
     }
 }
 
-/// The rank of each AS by its place, 1, 2, 3, .. in the order in which they go; who never goes has 0.
-pub fn ranks(survey: &Survey<'_>) -> [u32; ASES] {
+/// The rank of each AS by its place, 1, 2, 3, .. in the order in which they go; who never goes keeps 0.
+pub fn rank(survey: &Survey<'_>, ranks: &mut [u32; ASES]) {
     let mut guess = Guess {
         index: [0; INDEX],
         customers: [0; ASES],
@@ -103,13 +103,11 @@ pub fn ranks(survey: &Survey<'_>) -> [u32; ASES] {
     };
     guess.note_links(survey);
     guess.push_bare(survey.network.ases);
-    let mut ranks = [0u32; ASES];
     for rank in 1..=ASES as u32 {
         let Some(place) = guess.bare.pop() else {
-            return ranks;
+            return;
         };
-        scratch::put(&mut ranks, usize::from(place), rank);
+        scratch::put(ranks, usize::from(place), rank);
         guess.take(survey, place);
     }
-    ranks
 }

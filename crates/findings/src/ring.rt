@@ -8,6 +8,7 @@ ghost use Rattle.findings.specs.Peelings.{Peeled, Round, RingsLeft, Bare};
 
 use crate::survey::{PROVIDES, Survey, Way};
 use crate::{order, ranks};
+use offers::scratch::ASES;
 
 // Takes away who is left and not met. Whether there was one.
 #[tactic(auto, using(crate::proofs::PeelLaws::peelings))]
@@ -52,7 +53,8 @@ fn peel_ranked(survey: &Survey<'_>, left: &mut [u32])
     requires rings { RingsLeft survey.now.network.words.now left.old }
     ensures { RingsLeft survey.now.network.words.now left.new }
 {
-    let ranks = order::ranks(survey);
+    let mut ranks = [0; ASES];
+    order::rank(survey, &mut ranks);
     if ranks::fall(survey, &ranks) {
         ranks::spare(left, &ranks);
     }
