@@ -21,9 +21,12 @@ fn meet(seen: &mut [u32; 513], met: &mut [u32; 2112], n: usize, x: u32) -> Optio
     met[s] = x;
     seen[n] = x;
     if held != 0 {
-        return Some(n);
+        Some(n)
+    } else if n < ASES {
+        Some(n + 1)
+    } else {
+        None
     }
-    if n < ASES { Some(n + 1) } else { None }
 }
 
 // Gathers the ends of all links. How many words they are; none if they are too many.

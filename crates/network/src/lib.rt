@@ -56,10 +56,7 @@ pub(crate) fn check_with(
     requires { Fresh limits seats.old pairs.old }
     ensures { result ≡ check_words limits words.now }
 {
-    if words.len() % WORDS_PER_LINK != 0 {
-        return Err(Refusal::OverLimit);
-    }
-    if limits.links < words.len() / WORDS_PER_LINK {
+    if words.len() % WORDS_PER_LINK != 0 || limits.links < words.len() / WORDS_PER_LINK {
         return Err(Refusal::OverLimit);
     }
     let mut tables = steps::Tables {
@@ -92,10 +89,10 @@ pub fn list_ases(words: &[u32], list: &mut [u32]) -> usize
     requires { length (ases_of (links_of words.now)) ≤ length list.old }
     ensures { Listed (ases_of (links_of words.now)) list.old list.new result }
 {
-    if let Some(n) = quick::list_quickly(words, list) {
-        return n;
+    match quick::list_quickly(words, list) {
+        Some(n) => n,
+        None => sorted::list_plainly(words, list),
     }
-    sorted::list_plainly(words, list)
 }
 
 /// Where x stands among the first n words.

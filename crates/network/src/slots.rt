@@ -71,9 +71,10 @@ fn note_as(seats: &mut [u32], homes: usize, n: usize, x: u32) -> usize
     let s = h + find_as(&seats[h..], x).unwrap();
     if seats[s] == 0 {
         seats[s] = x;
-        return n + 1;
+        n + 1
+    } else {
+        n
     }
-    n
 }
 
 // Puts both ends of a link in. The new number of ASes.
@@ -95,7 +96,8 @@ pub fn note_pair(words: &[u32], pairs: &mut [u16], homes: usize, i: usize) -> bo
     let s = h + find_pair(words, &pairs[h..], l).unwrap();
     if pairs[s] == 0 {
         pairs[s] = (i + 1) as u16;
-        return false;
+        false
+    } else {
+        true
     }
-    true
 }
