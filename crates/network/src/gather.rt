@@ -10,7 +10,9 @@ const ASES: usize = 512;
 
 // Gathers x behind n words if it is new; 0 always is. How many they are now, or none if there is no room for x: in the list of ASes, or in
 // the table, of 2,048 homes and 64 slots more, past which no search goes. Word n is written in any case, which spares a branch.
-// Kept: the words and their length side by side (d), since word n, behind those that count, is where they grow into.
+// Kept (d): words and count side by side, since a struct for them (`Gathered { seen, met, n }`, calls `gathered.meet(l.a)?`) would serve this
+// private function alone: the words are the caller's, who sorts them, and word n, behind those that count, is written. 0 in `met` is an
+// empty slot, as in slots.rt.
 fn meet(seen: &mut [u32; 513], met: &mut [u32; 2112], n: usize, x: u32) -> Option<usize>
     requires { Gathering seen.old met.old n }
     ensures { Grown (insert x) seen.old met.old n seen.new met.new result }
@@ -21,9 +23,12 @@ fn meet(seen: &mut [u32; 513], met: &mut [u32; 2112], n: usize, x: u32) -> Optio
     met[s] = x;
     seen[n] = x;
     if held != 0 {
-        return Some(n);
+        Some(n)
+    } else if n < ASES {
+        Some(n + 1)
+    } else {
+        None
     }
-    if n < ASES { Some(n + 1) } else { None }
 }
 
 // Gathers the ends of all links. How many words they are; none if they are too many.

@@ -56,10 +56,7 @@ pub(crate) fn check_with(
     requires { Fresh limits seats.old pairs.old }
     ensures { result ≡ check_words limits words.now }
 {
-    if words.len() % WORDS_PER_LINK != 0 {
-        return Err(Refusal::OverLimit);
-    }
-    if limits.links < words.len() / WORDS_PER_LINK {
+    if words.len() % WORDS_PER_LINK != 0 || limits.links < words.len() / WORDS_PER_LINK {
         return Err(Refusal::OverLimit);
     }
     let mut tables = steps::Tables {
@@ -88,18 +85,19 @@ pub fn slot_of(x: u32) -> usize
 }
 
 /// The ASes of the links, ascending, in the first words of a lent list, and how many they are. The other words stay.
+// Kept (a): the count beside the list, not a slice of it: public with its clause, `Listed`.
 pub fn list_ases(words: &[u32], list: &mut [u32]) -> usize
     requires { length (ases_of (links_of words.now)) ≤ length list.old }
     ensures { Listed (ases_of (links_of words.now)) list.old list.new result }
 {
-    if let Some(n) = quick::list_quickly(words, list) {
-        return n;
+    match quick::list_quickly(words, list) {
+        Some(n) => n,
+        None => sorted::list_plainly(words, list),
     }
-    sorted::list_plainly(words, list)
 }
 
 /// Where x stands among the first n words.
-// Kept: the list and its length side by side (a), since this entry and its clause are public.
+// Kept (a): the list and its length side by side: public with its clauses, `Ascending (take n list)` and `Stands`.
 pub fn place_of(list: &[u32], n: usize, x: u32) -> Option<usize>
     requires { (n ≤ length list.now) × Ascending (take n list.now) }
     ensures { Stands list.now n x result }
@@ -108,6 +106,7 @@ pub fn place_of(list: &[u32], n: usize, x: u32) -> Option<usize>
 }
 
 /// Every word is 0.
+// Kept (a): a second name for `fill(0)`, public with its clause.
 pub fn clear(room: &mut [u32])
     ensures { room.new ≡ replicate (length room.old) 0 }
 {

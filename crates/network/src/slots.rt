@@ -1,5 +1,9 @@
 // The two tables of the check: ASes, and links by the pair that they join. A search begins at a home and goes up to what it looks
 // for or to an empty slot, 0; the slots past the homes spare it from wrapping round.
+// Kept (d): 0 for an empty slot, since the tables lie on the stack as numbers (`[0u32; 2561]`, `[0u16; 7168]`): an `Option` per slot would
+// double them, and no AS and no stored link number is 0.
+// Kept (d): table and homes side by side, since `Tables` (steps.rt) has two tables whose homes follow from their lengths (`as_homes`,
+// `pair_homes`): as its methods these functions would say all of `Tables` in each clause, where now they say one table.
 ghost use Rattle.std.specs.Prelude.{◌≡◌, ◌*◌, ◌<◌, ◌≤◌, ◌==◌, ◌||◌, length, drop, position};
 ghost use Rattle.rules.specs.Checks.{is_same_pair};
 ghost use Rattle.network.specs.Slots.{spread_of, stops, Homed};
@@ -48,6 +52,8 @@ pub fn find_as(seats: &[u32], x: u32) -> Option<usize>
 }
 
 // Whether two links join the same two ASes, either way round.
+// Kept (d): no derived `==` says this, which goes by order and relation too; `&` and `|` since the test, as those of offers/pass.rt, has no
+// branch inside.
 fn same_pair(l: Link, k: Link) -> bool
     ensures { result ≡ is_same_pair l k }
 {
@@ -71,9 +77,10 @@ fn note_as(seats: &mut [u32], homes: usize, n: usize, x: u32) -> usize
     let s = h + find_as(&seats[h..], x).unwrap();
     if seats[s] == 0 {
         seats[s] = x;
-        return n + 1;
+        n + 1
+    } else {
+        n
     }
-    n
 }
 
 // Puts both ends of a link in. The new number of ASes.
@@ -86,6 +93,7 @@ pub fn note_ends(seats: &mut [u32], homes: usize, n: usize, l: Link) -> usize
 }
 
 // Puts link i in if no link before it joins its pair. Whether one does.
+// Kept (d): a `bool`, since a table knows no refusals: as `Result<(), Refusal>` it would name the one of the check (steps.rt) to spare it an `if`.
 pub fn note_pair(words: &[u32], pairs: &mut [u16], homes: usize, i: usize) -> bool
     requires { Pairing homes words.now i pairs.old }
     ensures { Paired homes words.now i pairs.old pairs.new result }
@@ -95,7 +103,8 @@ pub fn note_pair(words: &[u32], pairs: &mut [u16], homes: usize, i: usize) -> bo
     let s = h + find_pair(words, &pairs[h..], l).unwrap();
     if pairs[s] == 0 {
         pairs[s] = (i + 1) as u16;
-        return false;
+        false
+    } else {
+        true
     }
-    true
 }

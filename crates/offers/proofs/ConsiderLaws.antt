@@ -115,9 +115,6 @@ goes_other k t ne =
     small : ((eqb k 1 || eqb k 2) && eqb t 1) ≡ true → k ≡ 4 → ⊥
     small p e = ⊎_elim (λ a. omega tests) (λ a. omega tests) (or_one (eqb k 1) (eqb k 2) (and_left (eqb k 1 || eqb k 2) (eqb t 1) p))
 
-pub goes_tested : (k : ℕ) {p q : TypeLength} → p ≡ q → {r x : Bool} → r ≡ is_passed_on k p.typ → r ≡ x → is_passed_on k q.typ ≡ x
-goes_tested k e f g = ap (λ (p : TypeLength). is_passed_on k p.typ) (sym e) ∙ sym f ∙ g
-
 -- what goes on has the link's kind as its type
 pub goes_over : (t : List ℕ) (w : Way) → is_passed_on w.kind (type_word t w.neighbour) ≡ true
     → ranked_offer (record { typ = w.kind; length = length_word t w.neighbour + w.cost }) (number_word t w.neighbour) ≡ told_offer t w

@@ -4,7 +4,7 @@ use Prim.Native.Nat.{ℕ, zero, suc, ◌+◌, ◌*◌, ◌≤◌, ◌<◌}
 use mathlib.Core.Path.{◌≡◌, refl, sym, ◌∙◌, ap, subst}
 use mathlib.Core.List.{List, [], ◌∷◌, ◌++◌}
 use native.Mathlib.Omega.{arith}
-use lib.ListN.{length, get_or, take, drop, length-append, length-drop}
+use lib.ListN.{length, get_or, take, drop}
 use lib.Seq.{length-take-le, take-length}
 use Rattle.std.specs.Prelude.{Option, Some, None, IsSome}
 use Rattle.rules.specs.declared.Link.{Link}
@@ -57,10 +57,6 @@ pub record EndsAt (ls : List Link) (i : ℕ) (old new : List ℕ) : Type 0 where
   pub words : new ≡ places_of (ases_of ls) (take i ls) ++ drop (2 * i) old
 
 module _ {ls : List Link} {i : ℕ} {old new : List ℕ} (e : EndsAt ls i old new) (room : 2 * length ls ≤ length old) where
-  pub ends_long : i ≤ length ls → length new ≡ length old
-  ends_long h =
-      omega (arith, simp (length-append, length-drop) at (ap length e.words), places_length (ases_of ls) (take i ls), length-take-le i ls h)
-
   pub ends_all : i ≡ length ls → new ≡ with_places ls old
   ends_all h = e.words ∙ rw h (ap (λ (ks : List Link). places_of (ases_of ls) ks ++ drop (2 * length ls) old) (take-length ls))
 

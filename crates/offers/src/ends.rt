@@ -28,6 +28,7 @@ pub fn place_at(places: &[u32], k: usize) -> usize
 
 // Puts the place of each AS, one higher, into a slot that is free, 0, from its own slot on. Nothing is said of the hints: one may be
 // missing or wrong.
+// Kept (d): 0 for no hint, since hints lie on the stack as numbers (`[0u32; 2048]`): an `Option` per slot would double them.
 pub fn put_hints(ases: &[u32], hints: &mut [u32; 2048])
     requires { length ases.now < 4294967296 }
 {
@@ -40,7 +41,7 @@ pub fn put_hints(ases: &[u32], hints: &mut [u32; 2048])
 }
 
 // The links of a network and its ASes, ascending, with hints where each AS stands.
-#[derive(Clone, Copy, Debug)]
+#[derive(Clone, Copy, Debug, PartialEq, Eq)]
 pub struct Roster<'a> {
     pub words: &'a [u32],
     pub ases: &'a [u32],
@@ -54,16 +55,11 @@ impl Roster<'_> {
     fn hinted(&self, x: u32) -> Option<usize>
         ensures { IfSome result (λ i. (i < length self.now.ases.now) × (get_or self.now.ases.now i 0 ≡ x)) }
     {
-        for mark in &self.hints[network::slot_of(x)..] {
-            if *mark == 0 {
-                return None;
-            }
-            let place = (*mark - 1) as usize;
-            if self.ases.get(place) == Some(&x) {
-                return Some(place);
-            }
-        }
-        None
+        self.hints[network::slot_of(x)..]
+            .iter()
+            .take_while(|mark| **mark != 0)
+            .map(|mark| (*mark - 1) as usize)
+            .find(|place| self.ases.get(*place) == Some(&x))
     }
 
     // Where one of the ASes stands.
@@ -72,11 +68,10 @@ impl Roster<'_> {
         requires { In x self.now.ases.now }
         ensures { result ≡ index_in self.now.ases.now x }
     {
-        if let Some(i) = self.hinted(x) {
-            return i as u32;
+        match self.hinted(x) {
+            Some(place) => place as u32,
+            None => network::place_of(self.ases, self.ases.len(), x).unwrap() as u32,
         }
-        let place = network::place_of(self.ases, self.ases.len(), x);
-        place.unwrap() as u32
     }
 
     // The two ends of link i.

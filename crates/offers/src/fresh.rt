@@ -27,6 +27,8 @@ fn put_entry(t: &mut [u32], i: usize, number: u32, pair: TypeLength)
     crate::put_line(t, i, pair, number);
 }
 
+// Kept (d): n beside the table, since the callers' clauses say that words behind the first 4n stay: over a cut table, `&mut t[..4 * n]`, each
+// would join what was cut off again.
 // The first n entries get the ASes and pairs that are given for their places, with the ASes themselves as next hops.
 pub fn lay_entries<F: Fn(usize) -> (u32, TypeLength)>(t: &mut [u32], n: usize, entry: F)
     requires room { 4 * n ≤ length t.old }

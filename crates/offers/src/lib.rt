@@ -18,12 +18,16 @@ use network::WORDS_PER_LINK;
 use pass::Pass;
 use rules::TypeLength;
 
+// Kept (a): a count n beside a table or list (`lay_fresh_lines`, `place_ends`, `elect_links`), not a slice cut to it: public with their clauses,
+// which say that words behind the first 4n stay.
+
 mod ends;
 mod fresh;
 mod pass;
 pub mod scratch;
 
 // A direction with its ends as places among the ascending ASes, its kind seen from the hearer, and its cost.
+// Kept (a): the kind is a number, as `extend_type` takes it and as its clauses and those of `way_at` and `consider` say.
 #[derive(Clone, Copy, Debug, PartialEq, Eq)]
 pub struct Way {
     pub hearer: usize,
@@ -42,8 +46,8 @@ pub struct Offered {
 
 impl Offered {
     // Smaller type wins, then smaller length, then smaller rank.
-    // Kept: one comparison without branches, in which length and rank count where the types are equal. With `same`, then `beats`, a pass
-    // over ever other networks takes a seventh longer.
+    // Kept (b): one comparison without branches, in which length and rank count where the types are equal. With `==` on pairs, then `<`, a
+    // pass takes a seventh longer where each call meets another network.
     pub fn wins(self, other: Offered) -> bool
         ensures { result ≡ better (as_offer self) (as_offer other) }
     {
@@ -61,7 +65,8 @@ fn length_rank(length: u32, rank: u32) -> u64
 }
 
 // Words per table entry: number, type, length, next hop.
-// Kept: entries are read and written by index, since a table is words that callers lend.
+// Kept (a): an index beside a table in each of these functions, and the clause `4 * i + 4 ≤ length t`: they are public with it, and a table is
+// words that callers lend (`&mut [u32]`), not a slice of entries.
 pub const WORDS_PER_ENTRY: usize = 4;
 
 // The AS of entry i.
@@ -157,7 +162,7 @@ pub fn way_at(words: &[u32], places: &[u32], k: usize) -> Way
     }
 }
 
-// The offer that a line stands for: of equal pairs the smaller next hop is better.
+// The offer that a line stands for: of equal pairs the smaller next hop is better. Type 4 is unreachable, a number as in `rules`.
 pub fn offer_of(pair: TypeLength, next: u32) -> Offered
     ensures { result ≡ ranked_offer pair next }
 {

@@ -1,5 +1,6 @@
 // The pass that finds every AS's best offer, one direction after the other. A line is stored only where an offer wins, and offers are
 // compared only where the neighbour's type goes on over the link: each is one branch, whose test has none inside.
+// Kept (a): kinds and types are numbers, as `extend_type` and `TypeLength`, public in `rules`, have them.
 ghost use Rattle.std.specs.Prelude.{◌+◌, ◌*◌, ◌≤◌, ◌≡◌, true, cond, eqb, length};
 ghost use Rattle.rules.specs.Network.{links_of, ases_of};
 ghost use Rattle.offers.specs.Lines.{type_word};
@@ -44,7 +45,7 @@ pub fn goes_on(kind: u32, typ: u32) -> bool
 }
 
 // What a pass goes over: the links, where their ends stand, and the table whose lines are told.
-#[derive(Clone, Copy, Debug)]
+#[derive(Clone, Copy, Debug, PartialEq, Eq)]
 pub struct Pass<'a> {
     pub words: &'a [u32],
     pub places: &'a [u32],

@@ -11,6 +11,7 @@ pub const LINKS: usize = 1536;
 pub const ASES: usize = 512;
 
 // Word i, and 0 past the end.
+// Kept (a): 0, not an `Option`, past the end: public with its clause, `get_or s i 0`.
 pub fn at(s: &[u32], i: usize) -> u32
     ensures { result ≡ get_or s.now i 0 }
 {
@@ -18,7 +19,7 @@ pub fn at(s: &[u32], i: usize) -> u32
 }
 
 // Word i gets a value, if there is such a word.
-// Kept: the index, since `get_mut` says nothing of what the words are once its loan is over.
+// Kept (d): the index, since `get_mut` says nothing of what the words are once its loan is over.
 pub fn put(s: &mut [u32], i: usize, value: u32)
     ensures { s.new ≡ set s.old i value }
 {
@@ -28,6 +29,7 @@ pub fn put(s: &mut [u32], i: usize, value: u32)
 }
 
 // The number of links, as far as an index has words for them.
+// Kept (a): nothing in these crates calls it; public with its clause.
 pub fn indexed(words: &[u32]) -> usize
     ensures { (result ≡ links_indexed words.now) × (result ≤ 1536) × (3 * result ≤ length words.now) }
 {
@@ -56,6 +58,7 @@ pub fn head_of(heads: usize, place: u32) -> usize
 }
 
 // What was noted before: only a smaller one counts.
+// Kept (a): 0 for none, as words of the index have it: public with its clause, `earlier_noted`.
 pub fn noted_before(index: &[u32], noted: u32) -> u32
     requires { 0 < noted }
     ensures { (result < noted) × (result ≡ earlier_noted index.now noted) }

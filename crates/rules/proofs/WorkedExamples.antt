@@ -1,4 +1,4 @@
--- P1 to P10: one test that antt computes over all rows of specs/Worked, and one statement that follows from it.
+-- The worked examples: one test that antt computes over all rows of specs/Worked, and one statement that follows from it.
 use mathlib.Core.Path.{◌≡◌, refl}
 use mathlib.Core.Bool.{true}
 use mathlib.Core.List.{List, [], ◌∷◌}
@@ -41,6 +41,6 @@ pub rows_hold : (es : List Example) → all_of agrees es ≡ true → (e : Examp
 unfolding agrees
 rows_hold es t e m = numbers_same e.found e.expected (all_of_each agrees es t e m)
 
--- every row of P1 to P10 holds
+-- every row holds
 pub worked : (e : Example) → In e examples → e.found ≡ e.expected
 worked = rows_hold examples all_agree

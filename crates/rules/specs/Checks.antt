@@ -1,6 +1,6 @@
 -- When a list of links is refused, with number and place: 1; then links in list order, within a link 2 to 6.
 --
---   base_limits        the limits of document 01
+--   base_limits        the limits that every entry takes
 --   is_same_pair l k    links l and k join the same two ASes, either way round
 --   check_from limits seen known i ls  the reply to the links ls from place i on, after the links seen, which name the ASes known
 --   check_links limits ls  the reply to a list of links; check_words limits ws   to a list of link words

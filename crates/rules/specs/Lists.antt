@@ -1,4 +1,4 @@
--- What the paper's sentences need of lists.
+-- What the definitions need of lists.
 --
 --   In x l             x stands in l
 --   Without x l        x is none of l

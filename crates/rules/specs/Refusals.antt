@@ -1,7 +1,7 @@
--- Refusals: the paper's number and place of each.
+-- Refusals: the number and the place of each.
 --
 --   refusal_number r   1 to 13
---   refusal_place r    link index, line, byte, choice index, or 0 and 1 as the paper's table says
+--   refusal_place r    link index, line, byte, choice index, or else 0, and 1 for the working room
 use Rattle.std.specs.Prelude.{ℕ}
 use Rattle.rules.specs.declared.Refusal.{Refusal}
 use Rattle.rules.specs.declared.Refusal.TheVariants.{OverLimit, ZeroAs, NoRelation, EqualEnds, PairAgain, TooManyAses, NoDestination, OutputShort, RoomShort, Unreadable, BrokenForm, CannotStand, NotBest, NoDirection}

@@ -1,5 +1,5 @@
--- The worked examples P1 to P10 of document 01 on the definitions: a row for each, with what the definitions give and what the
--- document says. Lines are words: number, type, length, next hop.
+-- The worked example of five ASes, and small networks beside it, on the definitions: a row for each reply, with what the definitions give
+-- and what is expected. Lines are words: number, type, length, next hop.
 --
 --   examples           the rows; agrees row   both sides are the same numbers
 use Rattle.rules.specs.Replies.{Verdict}
@@ -18,7 +18,7 @@ pub record Example : Type 0 where
   pub found : List ℕ
   pub expected : List ℕ
 
--- 'Network A: `10|20|-1`, `20|30|-1`, `30|40|-1`, `10|40|0`, `10|50|-1`'
+-- 'Network A', of five ASes: '`10|20|-1`, `20|30|-1`, `30|40|-1`, `10|40|0`, `10|50|-1`'
 unfoldable pub network_a : List Link
 network_a = links_of (10 ∷ 20 ∷ 1 ∷ 20 ∷ 30 ∷ 1 ∷ 30 ∷ 40 ∷ 1 ∷ 10 ∷ 40 ∷ 0 ∷ 10 ∷ 50 ∷ 1 ∷ [])
 
@@ -67,7 +67,7 @@ judged_to ls d words = said (judge ls d 511 (entries_of words))
 abbrev pub row : List ℕ → List ℕ → Example
 row found expected = record { found = found; expected = expected }
 
--- the lines of P1 but for 50's, which follows
+-- the lines of A to 40 but for 50's, which follows
 abbrev pub lines_p1 : List ℕ → List ℕ
 lines_p1 last = 10 ∷ 1 ∷ 3 ∷ 20 ∷ 20 ∷ 1 ∷ 2 ∷ 30 ∷ 30 ∷ 1 ∷ 1 ∷ 40 ∷ 40 ∷ 1 ∷ 0 ∷ 40 ∷ last
 
@@ -76,26 +76,26 @@ table_p1 = lines_p1 (50 ∷ 3 ∷ 4 ∷ 10 ∷ [])
 
 unfoldable pub examples : List Example
 examples =
-    -- P1 'to 40: 10 is (1,3) by 20; 20 (1,2) by 30; 30 (1,1) by 40; 50 (3,4) by 10'
+    -- A: 'to 40: 10 is (1,3) by 20; 20 (1,2) by 30; 30 (1,1) by 40; 50 (3,4) by 10'
     row (table_to network_a 40) table_p1
-    -- P2 'to 50: 10 (1,1) by 50; 20 (3,2) by 10; 30 (3,3) by 20; 40 (2,2) by 10'
+    -- A: 'to 50: 10 (1,1) by 50; 20 (3,2) by 10; 30 (3,3) by 20; 40 (2,2) by 10'
     ∷ row (table_to network_a 50) (10 ∷ 1 ∷ 1 ∷ 50 ∷ 20 ∷ 3 ∷ 2 ∷ 10 ∷ 30 ∷ 3 ∷ 3 ∷ 20 ∷ 40 ∷ 2 ∷ 2 ∷ 10 ∷ 50 ∷ 1 ∷ 0 ∷ 50 ∷ [])
-    -- P3 'to 3: 1 is (4,0) by 1; 2 is (2,1) by 3; not joined'
+    -- two peerings: 'to 3: 1 is (4,0) by 1; 2 is (2,1) by 3; not joined'
     ∷ row (table_to two_peerings 3) (1 ∷ 4 ∷ 0 ∷ 1 ∷ 2 ∷ 2 ∷ 1 ∷ 3 ∷ 3 ∷ 1 ∷ 0 ∷ 3 ∷ [])
     ∷ row (findings two_peerings) (0 ∷ 0 ∷ [])
-    -- P4 'type 1 over 3, and 2 over 2, give 4; 3 over 2 gives 3'
+    -- the extension table: 'type 1 over 3, and 2 over 2, give 4; 3 over 2 gives 3'
     ∷ row (extended_type 1 3 ∷ extended_type 2 2 ∷ extended_type 3 2 ∷ []) (4 ∷ 4 ∷ 3 ∷ [])
-    -- P5 'A to 40, no choices: quiet after 10'
+    -- a run: 'A to 40, no choices: quiet after 10'
     ∷ row (run_to network_a 40 [] 65536 (ases_of network_a)) (10 ∷ 0 ∷ 1 ∷ table_p1)
-    -- P6 'choices 7, 8: quiet after 16, same table; after only these two 50 is (3,2)'
+    -- the same with choices: 'choices 7, 8: quiet after 16, same table; after only these two 50 is (3,2)'
     ∷ row (run_to network_a 40 (7 ∷ 8 ∷ []) 65536 (ases_of network_a)) (16 ∷ 0 ∷ 1 ∷ table_p1)
     ∷ row (run_to network_a 40 (7 ∷ 8 ∷ []) 0 (50 ∷ [])) (2 ∷ 0 ∷ 0 ∷ 50 ∷ 3 ∷ 2 ∷ 10 ∷ [])
-    -- P7 'choices 7, 8, 7: one idle'
+    -- a choice again: 'choices 7, 8, 7: one idle'
     ∷ row (run_to network_a 40 (7 ∷ 8 ∷ 7 ∷ []) 0 []) (2 ∷ 1 ∷ 0 ∷ [])
-    -- P8 'A has no ring and is joined'. P9 '`1|2|-1`, `2|3|-1`, `3|1|-1` has one'; with no top it is joined
+    -- findings: 'A has no ring and is joined', '`1|2|-1`, `2|3|-1`, `3|1|-1` has one'; with no top it is joined
     ∷ row (findings network_a) (0 ∷ 1 ∷ [])
     ∷ row (findings ring_of_three) (1 ∷ 1 ∷ [])
-    -- P10 'sheet P1 with 50's length 2: refusal 12, line 4'; as it is, it passes
+    -- judging: A's sheet to 40 with 50's length 2 has 'refusal 12, line 4'; as it is, it passes
     ∷ row (judged_to network_a 40 (lines_p1 (50 ∷ 3 ∷ 2 ∷ 10 ∷ []))) (12 ∷ 4 ∷ [])
     ∷ row (judged_to network_a 40 table_p1) (0 ∷ [])
     -- 'Letting an older update arrive after a newer one on its direction': 10's (2,1) waits for 50 and is replaced by (1,3)

@@ -1,4 +1,4 @@
-// The paper's values: pairs of type and length with the extension table, links with their kinds, refusals with number and place.
+// What routing is told in: pairs of type and length with the extension table, links with their kinds, refusals with number and place.
 #![tactic(auto, unfolding(crate::specs::Pairs::extended_type, crate::specs::Pairs::extension, crate::specs::Pairs::beats_of, crate::specs::Pairs::same_as, crate::specs::Pairs::kind_from_a, crate::specs::Pairs::kind_from_b))]
 
 ghost use Rattle.std.specs.Prelude.{◌≡◌, ◌+◌, ◌<◌};
@@ -9,8 +9,8 @@ use std::error::Error;
 use std::fmt;
 
 // The twelve-cell extension table: link type 1 to 3 down, neighbour's type 1 to 4 across.
-// Kept: kinds and types are numbers, since `extend_type` and the methods of `TypeLength` answer for numbers that are none (4, unreachable),
-// and table words and links hold such numbers until they are refused.
+// Kept (a): kinds, types and relations are numbers in all of this crate (`extend_type`, `TypeLength`, `Link`), and 4 is 'unreachable': these
+// public functions answer for numbers that are no kind, type or relation, and table words and links hold such until they are refused.
 pub const EXTENSION: [[u32; 4]; 3] = [[1, 4, 4, 4], [2, 4, 4, 4], [3, 3, 3, 4]];
 
 // The type that a neighbour's type becomes over a link of this kind; 4 for what is no kind or no type.
@@ -42,15 +42,17 @@ impl TypeLength {
     {
         let typ = extend_type(kind, self.typ);
         if typ == 4 {
-            return TypeLength::UNREACHABLE;
-        }
-        TypeLength {
-            typ,
-            length: self.length + cost,
+            TypeLength::UNREACHABLE
+        } else {
+            TypeLength {
+                typ,
+                length: self.length + cost,
+            }
         }
     }
 
     // Smaller type wins, then smaller length.
+    // Kept (a): a second name for `<`, public with its clause.
     pub fn beats(self, other: TypeLength) -> bool
         ensures { result ≡ beats_of self other }
     {
@@ -58,6 +60,7 @@ impl TypeLength {
     }
 
     // The same type and length.
+    // Kept (a): a second name for `==`, public with its clause.
     pub fn same(self, other: TypeLength) -> bool
         ensures { result ≡ same_as self other }
     {
@@ -129,7 +132,7 @@ pub enum Refusal {
 }
 
 impl Refusal {
-    // The paper's number.
+    // The refusal's number, 1 to 13.
     pub fn number(self) -> u32
         ensures { result ≡ refusal_number self }
     {
@@ -150,7 +153,7 @@ impl Refusal {
         }
     }
 
-    // The paper's place.
+    // Where the refusal shows: a link, line, byte or choice by its index; else 0, and 1 where it is the working room that is short.
     pub fn place(self) -> usize
         ensures { result ≡ refusal_place self }
     {

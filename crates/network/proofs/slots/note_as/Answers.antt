@@ -16,5 +16,5 @@ unwrap-requires c = rw c.find_as.ensures (stops_inside (is_as c.args.x) _ _ (ome
 pub returns-then-seats-s-eq0 : goal.returns-then-seats-s-eq0
 returns-then-seats-s-eq0 c = Noted-new c.requires.0 c.requires.1 c.as_home-h.ensures.0 (stop (goal.at.returns-then-seats-s-eq0 c).After-unwrap) c.if-seats-s-eq0.true
 
-pub returns : goal.returns
-returns c = Noted-there c.requires.0 c.requires.1 c.as_home-h.ensures.0 (stop (goal.at.returns c).After-unwrap) c.if-seats-s-eq0.false
+pub returns-else-seats-s-eq0 : goal.returns-else-seats-s-eq0
+returns-else-seats-s-eq0 c = Noted-there c.requires.0 c.requires.1 c.as_home-h.ensures.0 (stop (goal.at.returns-else-seats-s-eq0 c).After-unwrap) c.if-seats-s-eq0.false

@@ -20,5 +20,5 @@ unwrap-requires c = rw c.find_pair.ensures
 pub returns-then-pairs-s-eq0 : goal.returns-then-pairs-s-eq0
 returns-then-pairs-s-eq0 c = Paired-new c.requires c.link_at-l.ensures c.pair_home-h.ensures.0 (stop (goal.at.returns-then-pairs-s-eq0 c).After-unwrap) c.if-pairs-s-eq0.true
 
-pub returns : goal.returns
-returns c = Paired-there c.requires c.link_at-l.ensures c.pair_home-h.ensures.0 (stop (goal.at.returns c).After-unwrap) c.if-pairs-s-eq0.false
+pub returns-else-pairs-s-eq0 : goal.returns-else-pairs-s-eq0
+returns-else-pairs-s-eq0 c = Paired-there c.requires c.link_at-l.ensures c.pair_home-h.ensures.0 (stop (goal.at.returns-else-pairs-s-eq0 c).After-unwrap) c.if-pairs-s-eq0.false
