@@ -38,7 +38,7 @@ fn put_lines(ases: &[u32], sheet: &[u8], told: &mut [u32]) -> Result<(), Refusal
     ensures lines { told.new ≡ over (words_of (lines_from (min (length ases.now) (count_of_lines sheet.now)) (drop 10 sheet.now))) told.old }
 {
     let count = reading::line_count(sheet);
-    let k = standing::shorter(ases.len(), count);
+    let k = ases.len().min(count);
     reading::read_lines(sheet, k, told);
     standing::lines_fault(&ases[..k], &told[..WORDS_PER_LINE * k], LONGEST)?;
     if count == ases.len() {

@@ -53,10 +53,8 @@ fn read_lines(text: &[u8], most: usize, words: &mut [u32]) -> Result<usize, Refu
     let mut n = 0;
     while at < text.len() {
         let given = line_at(text, at);
-        let read = given.read;
-        // Kept: (a) the enum is taken apart by `let .. else`, a form that the customers named.
-        if let LineRead::Skip = read {} else {
-            let LineRead::Reads(link) = read else {
+        if given.read != LineRead::Skip {
+            let LineRead::Reads(link) = given.read else {
                 return Err(Refusal::Unreadable(line));
             };
             if most <= n {
