@@ -66,11 +66,9 @@ fn text_length(words: &[u32]) -> usize
     requires { 25 * length (links_of words.now) < 18446744073709551616 }
     ensures { result ≡ length (text_of (links_of words.now)) }
 {
-    let mut total = 0;
-    for i in 0..words.len() / WORDS_PER_LINK {
-        total += line_length(network::link_at(words, i));
-    }
-    total
+    (0..words.len() / WORDS_PER_LINK)
+        .map(|i| line_length(network::link_at(words, i)))
+        .sum()
 }
 
 // Writes a number from byte `at` on, its last digit first, and answers the byte after it.
