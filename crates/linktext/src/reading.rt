@@ -44,6 +44,7 @@ fn line_at(text: &[u8], at: usize) -> LineAt
 }
 
 // The lines in order, each link into the words as it comes.
+// Kept (d): a `while` from line to line: an iterator of `LineAt`s would add a type that holds `text, at`, and its steps in the logic, for this loop alone; `n` would stay.
 fn read_lines(text: &[u8], most: usize, words: &mut [u32]) -> Result<usize, Refusal>
     requires { 3 * most ≤ length words.old }
     ensures { ReadInto (text_read_from most 0 1 (lines_of text.now)) words.old words.new result }

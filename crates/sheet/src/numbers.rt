@@ -1,5 +1,6 @@
 // Numbers of two and four bytes, high byte first.
-// Kept: a function for each size, since each is one line and a trait over both would be longer.
+// Kept (d): a reader for each size. One for both would answer `[u8; N]`, by `s[i..i + N].try_into()` with an `unwrap` or by a loop, before `from_be_bytes`: each of
+// these is one line.
 ghost use Rattle.std.specs.Prelude.{◌+◌, ◌≤◌, ◌≡◌, length};
 ghost use Rattle.std.proofs.lemmas.List.Edits.{sets};
 ghost use Rattle.sheet.specs.Form.{word2, word4};

@@ -62,7 +62,7 @@ pub fn put_sheet(bytes: &mut [u8], destination: u32, table: &[u32])
 }
 
 /// A table to be written as the sheet to a destination, for a network and the list of its ASes.
-#[derive(Clone, Copy, Debug)]
+#[derive(Clone, Copy, Debug, PartialEq, Eq)]
 pub(crate) struct Draft<'a> {
     pub network: Network<'a>,
     pub ases: &'a [u32],

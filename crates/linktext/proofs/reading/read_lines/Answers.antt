@@ -29,6 +29,6 @@ loop-at-preserved c =
     elim c.if-ne.branch [
       | then-ne+in-Reads+else-most-n w ↦ rw (w.words-is, w.n-is, w.put_link.ensures) (takes turn w.in-Reads.is w.if-most-n.false)
       | else-ne w ↦
-        let is_skip : (c.line_at-given.result.read ≡ Skip) = search rules in
-        rw (w.words-is, w.n-is) (skips turn is_skip)
+          let is_skip : (c.line_at-given.result.read ≡ Skip) = search rules in
+          rw (w.words-is, w.n-is) (skips turn is_skip)
     ]
