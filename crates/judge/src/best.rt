@@ -11,6 +11,7 @@ use sheet::rows;
 use sheet::rows::{Row, WORDS_PER_LINE};
 
 /// The lines that a sheet prints, as table words: one for each AS of a network, in order.
+// Kept (d): `listed` is said here and by `judge_lines`, as in `sheet::writing`, where the reason stands.
 #[derive(Clone, Copy, Debug, PartialEq, Eq)]
 pub struct Printed<'a> {
     pub network: Network<'a>,

@@ -62,6 +62,8 @@ pub fn put_sheet(bytes: &mut [u8], destination: u32, table: &[u32])
 }
 
 /// A table to be written as the sheet to a destination, for a network and the list of its ASes.
+// Kept (d): `listed` is said here and in `judge`: a type of `network` for a network with its ASes would be public, with a contract, two edits and a row of
+// docs/PROMISES.md for each of its functions, to save this line.
 #[derive(Clone, Copy, Debug, PartialEq, Eq)]
 pub(crate) struct Draft<'a> {
     pub network: Network<'a>,

@@ -1,5 +1,5 @@
 -- The sum over the links is the length of the text (`lengths_all`).
-use Rattle.std.proofs.Common.{rules, of_calls, tests, ◌/◌, ◌∙◌, arith, length, refl}
+use Rattle.std.proofs.Common.{rules, tests, ◌/◌, ◌∙◌, arith, length, refl}
 use Rattle.std.proofs.lemmas.Iterator.{YieldsList-from_range, YieldsList-from_map}
 use Rattle.std.proofs.lemmas.Iterator.Consumers.{YieldsList-at, sum_by_from_yields_List, fits_by_from_yields_list}
 use Rattle.linktext.proofs.TextLaws.{text_bound}
