@@ -100,7 +100,7 @@ one_sheet_passes limits bound ws d room ready = (
   λ r b e p. (judge_Accepts limits bound ws r room p).bytes b ∙ ap (stable_sheet ws) e,
 )
 
--- with the limits of document 01
+-- with the limits that every entry takes
 pub ready : (ws : List ℕ) (d room : ℕ) → Below 4294967296 ws → fault_of_links base_limits ws ≡ Ok tt → In d (ases_of (links_of ws))
     → needed_room (length (links_of ws)) (length (ases_of (links_of ws))) ≤ room → Ready base_limits 511 ws d room
 ready ws d room b e has enough =

@@ -6,12 +6,13 @@ ghost use Rattle.sheet.specs.Places.{entry_of};
 ghost use Rattle.judge.specs.Steps.{differ_from, Told, with_due};
 
 use network::Network;
-use rules::{Refusal, TypeLength};
+use rules::{Limits, Refusal, TypeLength};
 use sheet::rows;
 use sheet::rows::{Row, WORDS_PER_LINE};
 
 /// The lines that a sheet prints, as table words: one for each AS of a network, in order.
-#[derive(Clone, Copy, Debug)]
+// Kept (d): `listed` is said here and by `judge_lines`, as in `sheet::writing`, where the reason stands.
+#[derive(Clone, Copy, Debug, PartialEq, Eq)]
 pub struct Printed<'a> {
     pub network: Network<'a>,
     pub ases: &'a [u32],
@@ -27,7 +28,7 @@ impl Printed<'_> {
         requires { at < length self.ases.now }
         ensures { result ≡ best_offers (arcs_of (links_of self.entry.network.words.now)) (get_or self.entry.ases.now at 0) (entries_of self.entry.lines.now) }
     {
-        let mut due = [0u32; 2048];
+        let mut due = [0u32; WORDS_PER_LINE * Limits::BASE.ases];
         self.put_due(at, &mut due);
         first_difference(self.lines, &due[..WORDS_PER_LINE * self.ases.len()])
     }
@@ -38,7 +39,7 @@ impl Printed<'_> {
         ensures { due.new ≡ with_due (links_of self.entry.network.words.now) (get_or self.entry.ases.now at 0) self.entry.lines.now self.entry.ases.now due.old }
     {
         let n = self.ases.len();
-        let mut places = [0u32; 3072];
+        let mut places = [0u32; 2 * Limits::BASE.links];
         offers::place_ends(self.network.words, self.ases, n, &mut places);
         offers::elect_links(self.network.words, &places, self.lines, due, n);
         offers::put_line(due, at, TypeLength::ORIGIN, self.ases[at]);
@@ -60,6 +61,7 @@ fn first_difference(lines: &[u32], due: &[u32]) -> Result<(), Refusal>
 }
 
 /// The same type, length and next hop.
+// Kept (a): the four fields of `Row` are public; a struct of the last three that derives `Eq` would change them.
 fn is_same_line(told: Row, best: Row) -> bool
     ensures { result ≡ is_same_line (entry_of told).line (entry_of best).line }
 {

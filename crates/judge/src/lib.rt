@@ -44,7 +44,7 @@ fn judge_network(network: Network<'_>, sheet: &[u8], room: usize) -> Result<(), 
         return Err(Refusal::RoomShort);
     }
     reading::form_fault(sheet)?;
-    let mut ases = [0u32; 512];
-    network::list_ases(network.words, &mut ases);
-    lines::judge_lines(network, &ases[..network.ases], sheet)
+    let mut ases = [0u32; Limits::BASE.ases];
+    let n = network::list_ases(network.words, &mut ases);
+    lines::judge_lines(network, &ases[..n], sheet)
 }

@@ -1,4 +1,7 @@
 // Refusals 7, 11 and 12 of a sheet of right form.
+//
+// Kept (a): the form is a `requires` of two functions and no type: `sheet::reading::destination`, `line_count` and `read_lines` are public, take bytes and keep
+// their own clauses; a type `Sheet` over the bytes would be one more public name beside them.
 ghost use Rattle.std.specs.Prelude.{◌*◌, ◌≤◌, min, ◌≡◌, length, drop, Ok};
 ghost use Rattle.rules.specs.Network.{links_of, ases_of};
 ghost use Rattle.rules.specs.Judge.{words_of, standing};
@@ -8,7 +11,7 @@ ghost use Rattle.judge.specs.Steps.{fault_of_lines};
 
 use super::best::Printed;
 use network::Network;
-use rules::Refusal;
+use rules::{Limits, Refusal};
 use sheet::rows::WORDS_PER_LINE;
 use sheet::{LONGEST, reading, standing};
 
@@ -20,7 +23,7 @@ pub fn judge_lines(network: Network<'_>, ases: &[u32], sheet: &[u8]) -> Result<(
 {
     let place = network::place_of(ases, ases.len(), reading::destination(sheet));
     let at = place.ok_or(Refusal::NoDestination)?;
-    let mut told = [0u32; 2048];
+    let mut told = [0u32; WORDS_PER_LINE * Limits::BASE.ases];
     put_lines(ases, sheet, &mut told)?;
     let printed = Printed {
         network,
@@ -38,7 +41,7 @@ fn put_lines(ases: &[u32], sheet: &[u8], told: &mut [u32]) -> Result<(), Refusal
     ensures lines { told.new ≡ over (words_of (lines_from (min (length ases.now) (count_of_lines sheet.now)) (drop 10 sheet.now))) told.old }
 {
     let count = reading::line_count(sheet);
-    let k = standing::shorter(ases.len(), count);
+    let k = ases.len().min(count);
     reading::read_lines(sheet, k, told);
     standing::lines_fault(&ases[..k], &told[..WORDS_PER_LINE * k], LONGEST)?;
     if count == ases.len() {

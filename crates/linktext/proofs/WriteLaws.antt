@@ -1,12 +1,14 @@
 -- One turn of each loop over the links: what is left of a definition from link i on, and from link i + 1 on.
-use Prim.Native.Nat.{ℕ, ◌+◌, ◌/◌, ◌%◌, ◌≤◌, ◌<◌}
-use mathlib.Core.Path.{◌≡◌, ◌∙◌, ap}
+use Prim.Native.Nat.{ℕ, zero, suc, ◌+◌, ◌/◌, ◌%◌, ◌≤◌, ◌<◌}
+use mathlib.Core.Path.{◌≡◌, ◌∙◌, sym, ap}
 use mathlib.Core.List.{List, [], ◌++◌}
 use native.Mathlib.Numerals.{add-one}
 use native.Mathlib.Omega.{arith}
 use lib.ListN.{length, length-append}
 use borrow.Author.Tests.{lt-ltb, le-ltb, eq-eqb, ne_eqb}
-use Rattle.std.specs.Prelude.{Err, Ok}
+use Rattle.std.specs.Prelude.{Err, Ok, sum_by}
+use Rattle.std.specs.List.{range_with_len}
+use Rattle.std.proofs.lemmas.List.Sums.{sum_by-cons}
 use Rattle.rules.specs.declared.Limits.{Limits}
 use Rattle.rules.specs.declared.Refusal.TheVariants.{OverLimit}
 use Rattle.rules.specs.Network.{links_of, link_in_words}
@@ -38,6 +40,20 @@ text_none ws i h = ap text_of (links_end ws i h)
 pub length_next : (ws : List ℕ) (i : ℕ) → i < length ws / 3
     → length (text_of (links_from ws i)) ≡ length (line_text (link_in_words ws i)) + length (text_of (links_from ws (i + 1)))
 length_next ws i h = ap length (text_next ws i h) ∙ length-append (line_text (link_in_words ws i)) (text_of (links_from ws (i + 1)))
+
+-- the bytes of the line of link i, and of n lines from link i on
+abbrev pub length_at : List ℕ → ℕ → ℕ
+length_at ws i = length (line_text (link_in_words ws i))
+
+lengths_from : (ws : List ℕ) (i n : ℕ) → i + n ≡ length ws / 3 → sum_by (length_at ws) (range_with_len i n) ≡ length (text_of (links_from ws i))
+lengths_from ws i zero h = sym (ap length (text_none ws i (omega arith)))
+lengths_from ws i (suc n) h =
+    sum_by-cons (length_at ws) i (range_with_len (i + 1) n)
+    ∙ ap (λ (k : ℕ). length_at ws i + k) (lengths_from ws (i + 1) n (omega arith))
+    ∙ sym (length_next ws i (omega arith))
+
+pub lengths_all : (ws : List ℕ) → sum_by (length_at ws) (range_with_len 0 (length ws / 3)) ≡ length (text_of (links_of ws))
+lengths_all ws = lengths_from ws 0 (length ws / 3) (omega arith)
 
 -- ---- the number of words, and then the first link without a relation
 

@@ -22,7 +22,7 @@ pub enum Reason {
 }
 
 // What a line gives.
-// Kept: (a) an enum of its own, taken apart by `let .. else`: a form that the customers named.
+// Kept (a): an enum of its own, taken apart by `let .. else`: a form that the customers named.
 #[derive(Clone, Copy, Debug, PartialEq, Eq)]
 pub enum LineRead {
     Skip,

@@ -89,6 +89,9 @@ fn read_relation(field: &[u8]) -> Option<u32>
     }
 }
 
+// Kept (d): `line, from` stand side by side, with `from ≤ length line` in three contracts: a struct for the two would say this as its ghost field, and each caller
+// would build one for one call.
+//
 // Where the field that begins at index `from` ends: at a bar, or with the line.
 fn field_end(line: &[u8], from: usize) -> usize
     requires { from ≤ length line.now }

@@ -1,6 +1,6 @@
 // The usual line, `digits|digits|-1` or `digits|digits|0` with its LF, read in one pass. Of any other line nothing is said here: `None`.
 //
-// Kept: (d) `text, at` stand side by side and not in a cursor struct: each step asks for another number of bytes behind `at`, so the struct would hold no fact.
+// Kept (d): `text, at` stand side by side and not in a cursor struct: each step asks for another number of bytes behind `at`, so the struct would hold no fact.
 ghost use Rattle.std.specs.Prelude.{◌≡◌, true, ◌+◌, ◌≤◌, ◌<◌, length, IfSome};
 ghost use Rattle.linktext.specs.Texts.{decimal, relation_text};
 ghost use Rattle.linktext.specs.Usual.{Found, Begun, Four, FourDigits, Digits, spelled, field_text, end_text, Written};
@@ -86,11 +86,7 @@ fn four_digits(text: &[u8], at: usize) -> Option<u64>
     ensures { IfSome result (FourDigits text.now at) }
 {
     let four = four_from(text, at);
-    if are_digits(four) {
-        Some(four_value(four))
-    } else {
-        None
-    }
+    are_digits(four).then(|| four_value(four))
 }
 
 // The number whose first four digits are those of `begun`; the next four are read at once, if there are four.

@@ -44,6 +44,7 @@ fn line_at(text: &[u8], at: usize) -> LineAt
 }
 
 // The lines in order, each link into the words as it comes.
+// Kept (d): a `while` from line to line: an iterator of `LineAt`s would add a type that holds `text, at`, and its steps in the logic, for this loop alone; `n` would stay.
 fn read_lines(text: &[u8], most: usize, words: &mut [u32]) -> Result<usize, Refusal>
     requires { 3 * most ≤ length words.old }
     ensures { ReadInto (text_read_from most 0 1 (lines_of text.now)) words.old words.new result }
@@ -53,10 +54,8 @@ fn read_lines(text: &[u8], most: usize, words: &mut [u32]) -> Result<usize, Refu
     let mut n = 0;
     while at < text.len() {
         let given = line_at(text, at);
-        let read = given.read;
-        // Kept: (a) the enum is taken apart by `let .. else`, a form that the customers named.
-        if let LineRead::Skip = read {} else {
-            let LineRead::Reads(link) = read else {
+        if given.read != LineRead::Skip {
+            let LineRead::Reads(link) = given.read else {
                 return Err(Refusal::Unreadable(line));
             };
             if most <= n {

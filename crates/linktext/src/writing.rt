@@ -1,6 +1,8 @@
 // Writing a link text: every refusal is looked at first, then the text's length, then it is written line by line.
 //
-// Kept: (a) the writing functions take `bytes, at` and answer the next place, as the public `put_number` does; no cursor struct.
+// Kept (d): the writing functions take `bytes, at` and answer the next place, as the public `put_number` does and `Stored` says. A cursor struct, as `Page` in `report`,
+// would add the struct and two laws (that there is room, what is put) beside `Stored`, for three functions of two or three lines.
+// Kept (a): a relation is a `u32` of `rules::Link`, 0 for peers and 1 for provider and customer; others are refused, which the contracts say of every number.
 ghost use Rattle.std.specs.Prelude.{◌≡◌, ◌∷◌, [], ◌++◌, ◌+◌, ◌*◌, ◌<◌, ◌≤◌, length};
 ghost use Rattle.std.proofs.lemmas.List.Edits.{sets};
 ghost use Rattle.rules.specs.Network.{links_of};
@@ -66,11 +68,9 @@ fn text_length(words: &[u32]) -> usize
     requires { 25 * length (links_of words.now) < 18446744073709551616 }
     ensures { result ≡ length (text_of (links_of words.now)) }
 {
-    let mut total = 0;
-    for i in 0..words.len() / WORDS_PER_LINK {
-        total += line_length(network::link_at(words, i));
-    }
-    total
+    (0..words.len() / WORDS_PER_LINK)
+        .map(|i| line_length(network::link_at(words, i)))
+        .sum()
 }
 
 // Writes a number from byte `at` on, its last digit first, and answers the byte after it.
@@ -106,11 +106,12 @@ fn put_end(bytes: &mut [u8], at: usize, relation: u32) -> usize
         bytes[at] = MINUS;
         bytes[at + 1] = ONE;
         bytes[at + 2] = LF;
-        return at + 3;
+        at + 3
+    } else {
+        bytes[at] = ZERO;
+        bytes[at + 1] = LF;
+        at + 2
     }
-    bytes[at] = ZERO;
-    bytes[at + 1] = LF;
-    at + 2
 }
 
 // Writes a link's line.

@@ -1,4 +1,4 @@
--- The two promises of document 01 on sheets, over what the entries leave in lent memory: 'reading what was written gives the destination
+-- The two promises on sheets, over what the entries leave in lent memory: 'reading what was written gives the destination
 -- and the table', and 'writing a read sheet gives its bytes again wherever the writer accepts'. They are the round trips under the tests
 -- that the entries passed.
 use Prim.Native.Nat.{ℕ, ◌+◌, ◌*◌, ◌≤◌, ◌<◌}

@@ -6,7 +6,7 @@ ghost use Rattle.rules.specs.Checks.{base_limits};
 ghost use Rattle.sheet.specs.Entries.{read_reply, final_table, write_reply, final_bytes};
 
 use network::Network;
-use rules::Refusal;
+use rules::{Limits, Refusal};
 use writing::Draft;
 
 mod numbers;
@@ -58,7 +58,7 @@ pub fn write_sheet(
     ensures bytes { bytes.new ≡ final_bytes base_limits 511 words.now destination table.now bytes.old }
 {
     let network = Network::check(words)?;
-    let mut ases = [0u32; 512];
+    let mut ases = [0u32; Limits::BASE.ases];
     let n = network::list_ases(words, &mut ases);
     let draft = Draft {
         network,

@@ -1,4 +1,7 @@
 // A sheet read: its form, its numbers at their places, its lines as table words.
+//
+// Kept (a): each public function asks for the bytes that it reads and no more (`7 ≤`, `10 ≤`, `10 + 11 * n ≤`), and `read_lines` takes n beside its slices:
+// a type `Sheet` of right form, over which they would be methods, would ask more of callers.
 ghost use Rattle.std.specs.Prelude.{◌+◌, ◌*◌, ◌≤◌, ◌≡◌, length, drop, Ok};
 ghost use Rattle.rules.specs.Checks.{base_limits};
 ghost use Rattle.rules.specs.Judge.{words_of};

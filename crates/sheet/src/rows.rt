@@ -1,4 +1,7 @@
 // Lines of a table as values, read from and written to table words, four per line.
+//
+// Kept (a): `Row`, `row_at` and `WORDS_PER_LINE` are public; `offers` reads the same words as pairs, and the sheet does not need that crate. `row_at` asks for
+// `4 * i + 4 ≤ length table`, as its row in docs/PROMISES.md says.
 ghost use Rattle.std.specs.Prelude.{◌+◌, ◌*◌, ◌≤◌, ◌≡◌, [], ◌∷◌, length};
 ghost use Rattle.std.proofs.lemmas.List.Edits.{sets};
 ghost use Rattle.rules.specs.Judge.{words_of, stands};
@@ -21,6 +24,7 @@ impl Row {
     pub(crate) fn stands(self, u: u32, bound: u32) -> bool
         ensures { result ≡ stands bound u (entry_of self) }
     {
+        // Kept (a): the type is a number, 4 for unreachable: the contract, `stands`, answers for numbers that are no type.
         let lost = self.typ == 4 && self.length > 0;
         self.number == u && (1..=4).contains(&self.typ) && !lost && self.length <= bound
     }

@@ -8,6 +8,7 @@ use super::rows::WORDS_PER_LINE;
 use rules::Refusal;
 
 /// The smaller of two counts.
+// Kept (a): public, a row of docs/PROMISES.md and the edit `shorter_is_longer` hold it; callers say `min`.
 pub fn shorter(n: usize, m: usize) -> usize
     ensures { result ≡ min n m }
 {
@@ -35,7 +36,7 @@ pub(crate) fn table_fault(ases: &[u32], table: &[u32], bound: u32) -> Result<(),
     ensures { result ≡ fault_of_table bound ases.now table.now }
 {
     let n = ases.len();
-    let k = shorter(n, table.len() / WORDS_PER_LINE);
+    let k = n.min(table.len() / WORDS_PER_LINE);
     lines_fault(&ases[..k], &table[..WORDS_PER_LINE * k], bound)?;
     if table.len() == WORDS_PER_LINE * n {
         Ok(())

@@ -18,10 +18,10 @@ fn put_head(bytes: &mut [u8], destination: u32, size: u16)
     ensures { bytes.new ≡ sets bytes.old 0 (head_of destination size) }
 {
     bytes[0] = 1;
-    numbers::put2(bytes, 1, 4);
-    numbers::put4(bytes, 3, destination);
+    numbers::put(bytes, 1, &[0, 4]);
+    numbers::put(bytes, 3, &destination.to_be_bytes());
     bytes[7] = 2;
-    numbers::put2(bytes, 8, size);
+    numbers::put(bytes, 8, &size.to_be_bytes());
 }
 
 /// The eleven bytes of a line, from byte at on.
@@ -29,10 +29,11 @@ fn put_line(bytes: &mut [u8], at: usize, row: Row)
     requires { at + 11 ≤ length bytes.old }
     ensures { bytes.new ≡ sets bytes.old at (line_bytes (entry_of row)) }
 {
-    numbers::put4(bytes, at, row.number);
+    let length = (row.length % 65536) as u16;
+    numbers::put(bytes, at, &row.number.to_be_bytes());
     bytes[at + 4] = (row.typ % 256) as u8;
-    numbers::put2(bytes, at + 5, (row.length % 65536) as u16);
-    numbers::put4(bytes, at + 7, row.next);
+    numbers::put(bytes, at + 5, &length.to_be_bytes());
+    numbers::put(bytes, at + 7, &row.next.to_be_bytes());
 }
 
 /// The lines of a table, from byte 10 on.
@@ -61,7 +62,9 @@ pub fn put_sheet(bytes: &mut [u8], destination: u32, table: &[u32])
 }
 
 /// A table to be written as the sheet to a destination, for a network and the list of its ASes.
-#[derive(Clone, Copy, Debug)]
+// Kept (d): `listed` is said here and in `judge`: a type of `network` for a network with its ASes would be public, with a contract, two edits and a row of
+// docs/PROMISES.md for each of its functions, to save this line.
+#[derive(Clone, Copy, Debug, PartialEq, Eq)]
 pub(crate) struct Draft<'a> {
     pub network: Network<'a>,
     pub ases: &'a [u32],

@@ -11,18 +11,18 @@ returns-in_err-lines_fault-clause-reply c =
     let passed_on : c.from_residual.result ≡ c.lines_fault.result = search rules in
     passed_on
     ∙ stopped _ _ _ (c.in_err-lines_fault.was)
-    ∙ lines_judged 511 A.ases.now A.sheet.now _ A.told.now (c.shorter-k.ensures ∙ ap (min _) c.line_count-count.ensures) c.read_lines.ensures c.lines_fault.ensures
+    ∙ lines_judged 511 A.ases.now A.sheet.now _ A.told.now (c.min-k.ensures ∙ ap (min _) c.line_count-count.ensures) c.read_lines.ensures c.lines_fault.ensures
 
 pub returns-then-count-ases-clause-reply : goal.returns-then-count-ases-clause-reply
 returns-then-count-ases-clause-reply c =
     let A = c.args in
-    let whole = lines_judged 511 A.ases.now A.sheet.now _ A.told.now (c.shorter-k.ensures ∙ ap (min _) c.line_count-count.ensures) c.read_lines.ensures c.lines_fault.ensures in
+    let whole = lines_judged 511 A.ases.now A.sheet.now _ A.told.now (c.min-k.ensures ∙ ap (min _) c.line_count-count.ensures) c.read_lines.ensures c.lines_fault.ensures in
     let same = eq-eqb _ _ (sym c.line_count-count.ensures ∙ c.if-count-ases.true) in
     rw (c.in_ok-lines_fault.was, same) at whole
 
 pub returns-else-count-ases-clause-reply : goal.returns-else-count-ases-clause-reply
 returns-else-count-ases-clause-reply c =
     let A = c.args in
-    let whole = lines_judged 511 A.ases.now A.sheet.now _ A.told.now (c.shorter-k.ensures ∙ ap (min _) c.line_count-count.ensures) c.read_lines.ensures c.lines_fault.ensures in
+    let whole = lines_judged 511 A.ases.now A.sheet.now _ A.told.now (c.min-k.ensures ∙ ap (min _) c.line_count-count.ensures) c.read_lines.ensures c.lines_fault.ensures in
     let apart = ne_eqb _ _ (λ (q : count_of_lines A.sheet.now ≡ length A.ases.now). c.if-count-ases.false (c.line_count-count.ensures ∙ q)) in
     rw (c.in_ok-lines_fault.was, apart) at whole

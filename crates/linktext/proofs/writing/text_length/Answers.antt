@@ -1,19 +1,22 @@
-use Rattle.std.proofs.Common.{◌∙◌, ap, arith, length}
+-- The sum over the links is the length of the text (`lengths_all`).
+use Rattle.std.proofs.Common.{rules, tests, ◌/◌, ◌∙◌, arith, length, refl}
+use Rattle.std.proofs.lemmas.Iterator.{YieldsList-from_range, YieldsList-from_map}
+use Rattle.std.proofs.lemmas.Iterator.Consumers.{YieldsList-at, sum_by_from_yields_List, fits_by_from_yields_list}
 use Rattle.linktext.proofs.TextLaws.{text_bound}
-use Rattle.linktext.proofs.WriteLaws.{length_next, text_none}
-use Rattle.linktext.specs.Texts.{line_text}
+use Rattle.linktext.proofs.WriteLaws.{length_at, lengths_all}
 use Rattle.rules.specs.Network.{links_of}
-use Rattle.rules.specs.declared.Link.{Link}
 use Rattle.linktext.proofs.writing.text_length.Goals as goal
 
-pub overflow_add-total : goal.overflow_add-total
-overflow_add-total c =
+pub sum-requires-clause-fits : goal.sum-requires-clause-fits
+sum-requires-clause-fits c =
     let ws = c.args.words.now in
-    omega (arith, c.line_length-total.ensures ∙ ap (λ (k : Link). length (line_text k)) c.link_at.ensures, length_next ws c.loop-i.i (omega arith), text_bound (links_of ws))
-
-pub loop-i-preserved : goal.loop-i-preserved
-loop-i-preserved c =
-    omega (arith, c.line_length-total.ensures ∙ ap (λ (k : Link). length (line_text k)) c.link_at.ensures, length_next c.args.words.now c.loop-i.i (omega arith))
+    fits_by_from_yields_list _ _ c.map.result _
+    (YieldsList-from_map _ (length_at ws) (YieldsList-at c.map.ensures.source (YieldsList-from_range 0 (length ws / 3) (length ws / 3) refl (omega arith))) c.map.ensures.closure (λ x r q k. search (rules, tests)))
+    (omega (arith, lengths_all ws, text_bound (links_of ws)))
 
 pub returns : goal.returns
-returns c = omega (arith, ap length (text_none c.args.words.now c.loop-i.i (omega arith)))
+returns c =
+    let ws = c.args.words.now in
+    sum_by_from_yields_List _ _ c.map.result _ c.sum.ensures.ran
+    (YieldsList-from_map _ (length_at ws) (YieldsList-at c.map.ensures.source (YieldsList-from_range 0 (length ws / 3) (length ws / 3) refl (omega arith))) c.map.ensures.closure (λ x r q k. search (rules, tests)))
+    ∙ lengths_all ws
