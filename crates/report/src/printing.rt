@@ -4,13 +4,11 @@ ghost use Rattle.rules.specs.Refusals.{refusal_place};
 ghost use Rattle.report.specs.Report.{refusal_line};
 ghost use Rattle.report.specs.Printing.{Printed, told_text};
 
-use crate::{REPORT_BYTES, TABLE_WORDS, Told};
+use crate::{LF, REPORT_BYTES, TABLE_WORDS, Told};
 use linktext::writing::put_number;
 use rules::Refusal;
 
 const SPACE: u8 = b' ';
-
-const LF: u8 = b'\n';
 
 // Lent bytes, and from which place on the next is written.
 #[derive(Drop)]
@@ -109,8 +107,8 @@ impl<'a> Page<'a> {
         ensures { Puts self.old (head_text told) self.new }
     {
         self.count(b"destination", told.end.destination);
-        self.finding(b"customer-ring", told.ring);
-        self.finding(b"joined", told.joined);
+        self.finding(b"customer-ring", told.found.ring);
+        self.finding(b"joined", told.found.joined);
     }
 }
 

@@ -25,11 +25,7 @@ fn with_findings(
     ensures room_after { room.new ≡ replicate (length room.old) 0 }
 {
     let found = find_accepted(network.words, network.ases, room)?;
-    Ok(Told {
-        end,
-        ring: found.ring,
-        joined: found.joined,
-    })
+    Ok(Told { end, found })
 }
 
 // The lines that are printed. Where the run is quiet they are the stable table's: the lines that every order of deliveries ends on, and
@@ -40,14 +36,16 @@ fn settle(
     end: Ending,
     table: &mut [u32; TABLE_WORDS],
     room: &mut [u32; ROOM_WORDS],
-)
+) -> Result<(), Refusal>
     requires { Accepted network.words.now end.count end.destination }
+    ensures value { result ≡ Ok tt }
     ensures table_after { table.new ≡ settled (links_of network.entry.words.now) end.destination end.quiet table.old }
     ensures room_len_unchanged { length room.new ≡ length room.old }
 {
     if end.quiet {
-        let _ = accepted_table(network.words, end.destination, table, room);
+        accepted_table(network.words, end.destination, table, room)?;
     }
+    Ok(())
 }
 
 // Lines and findings where the run has ended.
@@ -63,7 +61,7 @@ fn tell(
     ensures table_after { table.new ≡ settled (links_of network.entry.words.now) end.destination end.quiet table.old }
     ensures room_after { room.new ≡ replicate (length room.old) 0 }
 {
-    settle(network, end, table, room);
+    settle(network, end, table, room)?;
     with_findings(network, end, room)
 }
 
