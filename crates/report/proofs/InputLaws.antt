@@ -25,10 +25,9 @@ use Rattle.linktext.specs.declared.NumeralFault.{NumeralFault}
 use Rattle.linktext.specs.declared.NumeralFault.TheVariants.{NoForm, OverLarge}
 use Rattle.linktext.specs.Lines.{lf, numeral_of}
 use Rattle.linktext.specs.Fields.{place_of}
-use Rattle.linktext.specs.Texts.{refused, text_in}
+use Rattle.linktext.specs.Texts.{text_in}
 use Rattle.linktext.specs.TextNetworks.{links_of_text}
 use Rattle.linktext.proofs.PlaceLaws.{place_le}
-use Rattle.linktext.proofs.FieldLaws.{NoValue}
 use Rattle.linktext.proofs.ScratchLaws.{Got}
 use Rattle.linktext.proofs.WordNetworks.{got_links, got_fault, lost_fault}
 use Rattle.report.specs.declared.Told.{Told}
@@ -40,7 +39,7 @@ refuses e = rw e (record { replies = refl; tabled = refl; zeroed = refl })
 
 -- the text's lines ----------------------------------------------------------------------------------------------------------
 
-pub no_text : (t : List ℕ) (d : ℕ) {why : Refusal} → text_in base_limits t ≡ refused why → fault_of_text t d ≡ Err why
+pub no_text : (t : List ℕ) (d : ℕ) {why : Refusal} → text_in base_limits t ≡ Err why → fault_of_text t d ≡ Err why
 no_text t d e = rw (lost_fault base_limits t e)
 
 pub some_text : (t : List ℕ) (d : ℕ) {m : ℕ} {ws : List ℕ} → Got (text_in base_limits t) m ws → {u r : List ℕ} {a : Result Told Refusal} {u' r' : List ℕ}
@@ -81,6 +80,10 @@ behind_is : {t : List ℕ} {i : ℕ} → BehindFirst t i → behind t i ≡ afte
 behind_is {t} {i} b = ap (λ (k : ℕ). take k (drop i t)) (sym (length-drop i t)) ∙ take-length (drop i t) ∙ b.text
 
 -- the destination's line ------------------------------------------------------------------------------------------------------
+
+-- a numeral that is no value
+abbrev NoValue : Result ℕ NumeralFault → Type 0
+NoValue n = (fault : NumeralFault) × (n ≡ Err fault)
 
 no_value : (n : Result ℕ NumeralFault) (v : Verdict) → NoValue n → and_then (fault_of_number n) v ≡ Err (Unreadable 0)
 no_value (Ok d) v (fault, e) = cc
