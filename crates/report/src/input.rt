@@ -33,7 +33,7 @@ fn text_from(input: &[u8], end: usize) -> usize
     requires { end ≡ place_of lf input.now }
     ensures { BehindFirst input.now result }
 {
-    input.len().min(end + 1)
+    if end < input.len() { end + 1 } else { end }
 }
 
 // What is told of an input that is not too long.
@@ -45,7 +45,10 @@ fn answer_lines(
     ensures { Worked (links_behind base_limits input.now) (destination_in input.now) (fault_of_lines input.now) table.old room.old result table.new room.new }
 {
     let end = find(input, 0, LF);
-    let destination = read_number(&input[..end]).map_err(|_| Refusal::Unreadable(0))?;
+    // Kept (d): `.map_err(|_| Refusal::Unreadable(0))?` would take the fault only to throw it away.
+    let Ok(destination) = read_number(&input[..end]) else {
+        return Err(Refusal::Unreadable(0));
+    };
     let start = text_from(input, end);
     answer_text(&input[start..], destination, table, room)
 }

@@ -11,6 +11,7 @@ mod printing;
 mod working;
 
 // The program's own working room, in words: 8 for each of 1,536 links and 8 for each of 512 ASes.
+// Kept (a): three numbers, since the public function `report` takes arrays of these lengths, which callers write as numbers.
 pub const ROOM_WORDS: usize = 16384;
 
 // The table of 512 ASes, in words.

@@ -25,6 +25,8 @@ impl<'a> Page<'a> {
     ghost use Rattle.report.specs.Printing.{two_text, entries_text, head_text};
     ghost use Rattle.report.specs.Pages.{Fits, Puts};
 
+    // Kept (d): each function asks by `Fits` for another number of bytes, so that no type can hold the fact.
+
     // A word and a byte behind it.
     fn word(&mut self, word: &[u8], end: u8)
         requires { Fits self.old (length word.now + 1) }
@@ -82,6 +84,7 @@ impl<'a> Page<'a> {
     }
 
     // Entry i of the table as a line: AS, type, length, next hop.
+    // Kept (d): the four words by number, since they are printed as they lie; `sheet::rows::row_at` would add a crate to the report's and four fields.
     fn line(&mut self, table: &[u32], i: usize)
         requires { Fits self.old 44 × (4 * i + 4 ≤ length table.now) }
         ensures { Puts self.old (line_text (number_word table.now i) (entry_line table.now i)) self.new }
@@ -92,6 +95,7 @@ impl<'a> Page<'a> {
     }
 
     // The table's first n entries, a line for each.
+    // Kept (d): `lines(&table[..4 * n])` would divide by four again what the caller has counted, in its loop and in its contract.
     fn lines(&mut self, table: &[u32], n: usize)
         requires { Fits self.old (44 * n) × (4 * n ≤ length table.now) }
         ensures { Puts self.old (entries_text table.now 0 n) self.new }

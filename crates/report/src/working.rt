@@ -14,6 +14,9 @@ use table::accepted_table;
 // No choices: the lowest waiting direction is delivered from the start.
 const NO_CHOICES: [u32; 0] = [];
 
+// Kept (d): network and end of run are asked for side by side, as `Accepted` says of both: what is told holds the end and outlives the
+// words that the network borrows, so an end with the network in it would be a second type.
+
 // What is told with the two findings on the links.
 fn with_findings(
     network: Network<'_>,
@@ -49,7 +52,7 @@ fn settle(
 }
 
 // Lines and findings where the run has ended.
-// Kept: table and room go on side by side; a struct of the two would need a clause for each one's loan in every function.
+// Kept (d): table and room go on side by side; a struct of the two would need a clause for each one's loan in every function.
 fn tell(
     network: Network<'_>,
     end: Ending,
