@@ -39,7 +39,8 @@ pub fn judge(text: &[u8], sheet: &[u8]) -> Result<u64, Refusal>
         return Err(Refusal::OverLimit);
     }
     let mut list = [0u32; LIST_WORDS];
-    words::judge(read(text, &mut list)?, sheet)?;
+    let links = read(text, &mut list)?;
+    words::judge(links, sheet)?;
     Ok(0)
 }
 
@@ -48,7 +49,8 @@ pub fn find(text: &[u8]) -> Result<u64, Refusal>
     ensures { result ≡ told_findings text.now }
 {
     let mut list = [0u32; LIST_WORDS];
-    Ok(pack::found(words::find(read(text, &mut list)?)?))
+    let found = words::find(read(text, &mut list)?)?;
+    Ok(pack::found(found))
 }
 
 // A run: deliveries, idle choices and quiet; the table gets the lines of that moment.
