@@ -5,20 +5,21 @@ ghost use Rattle.rules.specs.Checks.{base_limits};
 ghost use Rattle.report.specs.Entries.{Reported};
 
 use findings::Found;
+use offers::WORDS_PER_ENTRY;
+use rules::Limits;
 
 mod input;
 mod printing;
 mod working;
 
 // The program's own working room, in words: 8 for each of 1,536 links and 8 for each of 512 ASes.
-// Kept (a): three numbers, since the public function `report` takes arrays of these lengths, which callers write as numbers.
-pub const ROOM_WORDS: usize = 16384;
+pub const ROOM_WORDS: usize = 8 * (Limits::BASE.links + Limits::BASE.ases);
 
 // The table of 512 ASes, in words.
-const TABLE_WORDS: usize = 2048;
+const TABLE_WORDS: usize = WORDS_PER_ENTRY * Limits::BASE.ases;
 
 // What the longest report takes: 71 bytes, and 44 for each of 512 ASes, where every number has ten digits.
-pub const REPORT_BYTES: usize = 22599;
+pub const REPORT_BYTES: usize = 71 + 44 * Limits::BASE.ases;
 
 // What ends each line.
 const LF: u8 = b'\n';

@@ -6,6 +6,7 @@ ghost use Rattle.report.specs.Printing.{Printed, told_text};
 
 use crate::{LF, REPORT_BYTES, TABLE_WORDS, Told};
 use linktext::writing::put_number;
+use offers::WORDS_PER_ENTRY;
 use rules::Refusal;
 
 const SPACE: u8 = b' ';
@@ -13,8 +14,8 @@ const SPACE: u8 = b' ';
 // Lent bytes, and from which place on the next is written.
 #[derive(Drop)]
 struct Page<'a> {
-    pub bytes: &'a mut [u8],
-    pub at: usize,
+    bytes: &'a mut [u8],
+    at: usize,
 }
 
 impl<'a> Page<'a> {
@@ -89,7 +90,7 @@ impl<'a> Page<'a> {
         requires { Fits self.old 44 × (4 * i + 4 ≤ length table.now) }
         ensures { Puts self.old (line_text (number_word table.now i) (entry_line table.now i)) self.new }
     {
-        let entry = 4 * i;
+        let entry = WORDS_PER_ENTRY * i;
         self.two(table[entry], table[entry + 1], SPACE);
         self.two(table[entry + 2], table[entry + 3], LF);
     }
