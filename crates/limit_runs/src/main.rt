@@ -5,8 +5,8 @@
 ghost use Rattle.std.specs.Prelude.{◌≤◌, IfOk};
 
 use network::WORDS_PER_LINK;
-use report::REPORT_BYTES;
-use rules::Refusal;
+use report::{REPORT_BYTES, ROOM_WORDS};
+use rules::{Limits, Refusal};
 use std::fs::File;
 use std::io;
 use std::io::{Read, Write};
@@ -57,9 +57,10 @@ fn say_room(rt: &impl Print, words: &[u32], need: usize) -> io::Result<()> {
 
 // The findings in a room that suffices, and in one that is a word short.
 fn say_rooms(rt: &impl Print, words: &[u32], ases: usize) -> io::Result<()> {
-    if ases == 0 || 512 < ases {
+    if ases == 0 || Limits::BASE.ases < ases {
         return Ok(());
     }
+    // Kept (d): `network::room_need` asks for fewer than 2^32 links, which would be one more test here.
     let need = 8 * (words.len() / WORDS_PER_LINK) + 8 * ases;
     say_room(rt, words, need)?;
     say_room(rt, words, need - 1)
@@ -78,11 +79,13 @@ fn say_links(rt: &impl Print, words: &[u32]) -> io::Result<()> {
 
 // The text's links, and the check of them.
 fn say_text(rt: &impl Print, text: &[u8]) -> io::Result<()> {
-    let mut words = [0u32; 4608];
+    let mut words = [0u32; WORDS_PER_LINK * Limits::BASE.links];
     match linktext::reading::read_text(text, &mut words) {
         Ok(links) => {
             print!(rt; " links {links}")?;
-            let end = words.len().min(WORDS_PER_LINK * links.min(1536));
+            let end = words
+                .len()
+                .min(WORDS_PER_LINK * links.min(Limits::BASE.links));
             say_links(rt, &words[..end])
         }
         Err(why) => say_refused(rt, why),
@@ -90,6 +93,7 @@ fn say_text(rt: &impl Print, text: &[u8]) -> io::Result<()> {
 }
 
 // The first bytes of a file: how many there are.
+// Kept (d): the program `route_sheet` reads standard input by the same call: two programs share no crate that may read.
 fn read_file(rt: &HostRuntime, path: &str, bytes: &mut [u8; INPUT_BYTES]) -> io::Result<usize>
     ensures { IfOk result (λ n. n ≤ 65537) }
 {
@@ -118,7 +122,7 @@ fn program_on(rt: &HostRuntime, path: &str) -> io::Result<()> {
 }
 
 fn print_report(rt: &HostRuntime, input: &[u8]) -> io::Result<()> {
-    let mut room = [0u32; 16384];
+    let mut room = [0u32; ROOM_WORDS];
     let mut out = [0u8; REPORT_BYTES];
     let end = report::report(input, &mut room, &mut out);
     rt.stdout().write_all(&out[..end])

@@ -1,5 +1,5 @@
 // For callers that hold up to sixteen links by value: the first n of the array are lent on.
-// Kept: array and number stand side by side, since the functions are public and take links by value.
+// Kept (a): array and number stand side by side, since the functions are public and take links by value.
 ghost use Rattle.std.specs.Prelude.{◌≡◌, take};
 ghost use Rattle.rules.specs.Network.{flat};
 ghost use Rattle.rules.specs.Checks.{base_limits, check_words};

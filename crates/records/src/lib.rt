@@ -13,20 +13,20 @@ ghost use Rattle.records.specs.Entries.{loaded, TextWritten, FoundIn, SheetWritt
 use findings::Found;
 use machine::Ran;
 use network::WORDS_PER_LINK;
-use rules::{Link, Refusal};
+use rules::{Limits, Link, Refusal};
 
 pub mod arrays;
 pub mod loaded;
 
 // At most so many links.
-pub const MOST_LINKS: usize = 1536;
+pub const MOST_LINKS: usize = Limits::BASE.links;
 
 // The list as words, by value: how many links there are, and their words where they are few.
-// Kept: a count beside the words, since callers make and take apart this public type.
+// Kept (a): a count beside the words, since callers make and take apart this public type.
 #[derive(Clone, Copy, Debug, PartialEq, Eq)]
 pub struct Words {
     pub count: usize,
-    pub words: [u32; 4608],
+    pub words: [u32; WORDS_PER_LINK * MOST_LINKS],
 }
 
 impl Words {
@@ -60,7 +60,7 @@ pub fn load(links: &[Link]) -> Words
 {
     let mut loaded = Words {
         count: links.len(),
-        words: [0; 4608],
+        words: [0; WORDS_PER_LINK * MOST_LINKS],
     };
     if loaded.count <= MOST_LINKS {
         to_words(links, &mut loaded.words);
@@ -121,6 +121,7 @@ pub fn judge_sheet(links: &[Link], sheet: &[u8], room: &mut [u32]) -> Result<(),
 }
 
 // A run of the machine: deliveries, idle choices, quiet or not; or refusals 1, 2 to 6, 7, 8, 13.
+// Kept (a): six parameters, here and in `loaded`, since both functions are public.
 pub fn run(
     links: &[Link],
     destination: u32,

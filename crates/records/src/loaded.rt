@@ -1,5 +1,5 @@
 // The entries over links that were loaded by value: refusal 1 of too many, else the entry over words.
-// Kept: a function for each entry, as in the crate's root, since all of them are public; each is one call.
+// Kept (a): a function for each entry, as in the crate's root, since all of them are public; each is one call.
 ghost use Rattle.std.specs.Prelude.{◌≡◌};
 ghost use Rattle.rules.specs.Checks.{base_limits, check_words};
 ghost use Rattle.table.specs.Entries.{Tabled};

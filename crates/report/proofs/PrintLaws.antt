@@ -46,11 +46,11 @@ pub head_bound : (x : Told) → length (head_text x) ≤ 52
 unfolding head_text
 head_bound x =
     let d = count_bound word_destination x.end.destination in
-    let r = finding_bound word_ring x.ring in
-    let j = finding_bound word_joined x.joined in
+    let r = finding_bound word_ring x.found.ring in
+    let j = finding_bound word_joined x.found.joined in
     let a = spaced word_destination (decimal x.end.destination) in
-    let b = spaced word_ring (yes_no x.ring) in
-    let c = spaced word_joined (yes_no x.joined) in
+    let b = spaced word_ring (yes_no x.found.ring) in
+    let c = spaced word_joined (yes_no x.found.joined) in
     omega (arith, length-append a (b ++ c), length-append b c)
 
 pub entries_bound : (t : List ℕ) (i k : ℕ) → length (entries_text t i k) ≤ 44 * k

@@ -70,12 +70,11 @@ module _ {ws : List ℕ} {n : ℕ} (ok : Counted ws n) (r : List ℕ) (long : le
     pub none_found : {why : Refusal} {A : Type 0} → f ≡ Err why → A
     none_found g = (let h = found_both in clash (cc))
 
-    pub tells_both : (end : Ending) {x : Found} → f ≡ Ok x → (let told : Result Told Refusal = Ok (record { end = end; ring = x.ring; joined = x.joined }) in
-        told ≡ Ok (told_of (links_of ws) end))
+    pub tells_both : (end : Ending) {x : Found} → f ≡ Ok x → (let told : Result Told Refusal = Ok (record { end = end; found = x }) in told ≡ Ok (told_of (links_of ws) end))
     tells_both end {x} g =
         let h = found_both in
         let same : x ≡ record { ring = ringed (links_of ws); joined = joined (links_of ws) } = cc in
-        ap (λ (y : Found). Ok (record { end = end; ring = y.ring; joined = y.joined })) same
+        ap (λ (y : Found). Ok (record { end = end; found = y })) same
 
 -- the stable table ----------------------------------------------------------------------------------------------------------
 
@@ -88,6 +87,9 @@ module _ {ws : List ℕ} {n d : ℕ} (ok : Accepted ws n d) {t r : List ℕ} {ou
   table_pass : fault_of_table base_limits ws d (length t) (length r) ≡ Ok tt
   unfolding fault_of_table
   table_pass = rw (ok.counted.accepted, ok.destination, table_enough ok.counted t table, room_enough ok.counted r room)
+
+  pub settles_surely : {why : Refusal} {A : Type 0} → out ≡ Err why → A
+  settles_surely g = (let passes : out ≡ Ok tt = a.replies ∙ table_pass in clash (cc))
 
   pub settles : t' ≡ settled (links_of ws) d true t
   settles = filled_words (links_of ws) d t t' (rw table_pass at a.tabled)

@@ -53,7 +53,7 @@ ending_of ls d r =
     }
 
 abbrev pub told_of : List Link → Ending → Told
-told_of ls e = record { end = e; ring = ringed ls; joined = joined ls }
+told_of ls e = record { end = e; found = record { ring = ringed ls; joined = joined ls } }
 
 abbrev pub answer_of : List Link → ℕ → Verdict → Result Told Refusal
 answer_of ls d (Ok tt) = Ok (told_of ls (ending_of ls d (run_from ls d)))

@@ -25,7 +25,7 @@ entries_text t i (suc k) = line_text (number_word t i) (entry_line t i) ++ entri
 unfoldable pub head_text : Told → List ℕ
 head_text x =
     spaced word_destination (decimal x.end.destination)
-    ++ (spaced word_ring (yes_no x.ring) ++ spaced word_joined (yes_no x.joined))
+    ++ (spaced word_ring (yes_no x.found.ring) ++ spaced word_joined (yes_no x.found.joined))
 
 unfoldable pub told_text : Told → List ℕ → List ℕ
 told_text x t = head_text x ++ (entries_text t 0 x.end.count ++ spaced (quiet_or x.end.quiet) (decimal x.end.made))

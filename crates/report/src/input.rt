@@ -8,13 +8,11 @@ ghost use Rattle.report.specs.Report.{destination_in, links_behind, fault_of_rep
 ghost use Rattle.report.specs.Answers.{fault_of_text, fault_of_lines, BehindFirst, Worked};
 
 use crate::working::answer_links;
-use crate::{ROOM_WORDS, TABLE_WORDS, Told};
+use crate::{LF, ROOM_WORDS, TABLE_WORDS, Told};
 use linktext::line::{find, read_number};
 use linktext::reading::read_scratch;
 use network::WORDS_PER_LINK;
 use rules::{Limits, Refusal};
-
-const LF: u8 = b'\n';
 
 // What is told of a link text; or the refusal of a line, or the first of 1 to 7.
 fn answer_text(
@@ -25,7 +23,7 @@ fn answer_text(
 ) -> Result<Told, Refusal>
     ensures { Worked (links_of_text base_limits text.now) destination (fault_of_text text.now destination) table.old room.old result table.new room.new }
 {
-    let mut words = [0u32; 4608];
+    let mut words = [0u32; WORDS_PER_LINK * Limits::BASE.links];
     let links = read_scratch(text, Limits::BASE, &mut words)?;
     answer_links(&words[..WORDS_PER_LINK * links], destination, table, room)
 }
@@ -35,10 +33,7 @@ fn text_from(input: &[u8], end: usize) -> usize
     requires { end ≡ place_of lf input.now }
     ensures { BehindFirst input.now result }
 {
-    if end < input.len() {
-        return end + 1;
-    }
-    end
+    if end < input.len() { end + 1 } else { end }
 }
 
 // What is told of an input that is not too long.
@@ -50,6 +45,7 @@ fn answer_lines(
     ensures { Worked (links_behind base_limits input.now) (destination_in input.now) (fault_of_lines input.now) table.old room.old result table.new room.new }
 {
     let end = find(input, 0, LF);
+    // Kept (d): `.map_err(|_| Refusal::Unreadable(0))?` would take the fault only to throw it away.
     let Ok(destination) = read_number(&input[..end]) else {
         return Err(Refusal::Unreadable(0));
     };

@@ -4,34 +4,40 @@
 ghost use Rattle.rules.specs.Checks.{base_limits};
 ghost use Rattle.report.specs.Entries.{Reported};
 
+use findings::Found;
+use offers::WORDS_PER_ENTRY;
+use rules::Limits;
+
 mod input;
 mod printing;
 mod working;
 
 // The program's own working room, in words: 8 for each of 1,536 links and 8 for each of 512 ASes.
-pub const ROOM_WORDS: usize = 16384;
+pub const ROOM_WORDS: usize = 8 * (Limits::BASE.links + Limits::BASE.ases);
 
 // The table of 512 ASes, in words.
-const TABLE_WORDS: usize = 2048;
+const TABLE_WORDS: usize = WORDS_PER_ENTRY * Limits::BASE.ases;
 
 // What the longest report takes: 71 bytes, and 44 for each of 512 ASes, where every number has ten digits.
-pub const REPORT_BYTES: usize = 22599;
+pub const REPORT_BYTES: usize = 71 + 44 * Limits::BASE.ases;
+
+// What ends each line.
+const LF: u8 = b'\n';
 
 // What is known where the machine's run has ended: the destination, how many ASes there are, quiet or not, and the deliveries made.
 #[derive(Clone, Copy, Debug, PartialEq, Eq)]
 struct Ending {
-    pub destination: u32,
-    pub count: usize,
-    pub quiet: bool,
-    pub made: u32,
+    destination: u32,
+    count: usize,
+    quiet: bool,
+    made: u32,
 }
 
 // What the report tells: how the run ended, and the two findings.
 #[derive(Clone, Copy, Debug, PartialEq, Eq)]
 struct Told {
-    pub end: Ending,
-    pub ring: bool,
-    pub joined: bool,
+    end: Ending,
+    found: Found,
 }
 
 // The report on an input, or the line of its refusal, from byte 0 on, and how many bytes it has. The room is lent for findings, table and

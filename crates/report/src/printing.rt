@@ -4,19 +4,18 @@ ghost use Rattle.rules.specs.Refusals.{refusal_place};
 ghost use Rattle.report.specs.Report.{refusal_line};
 ghost use Rattle.report.specs.Printing.{Printed, told_text};
 
-use crate::{REPORT_BYTES, TABLE_WORDS, Told};
+use crate::{LF, REPORT_BYTES, TABLE_WORDS, Told};
 use linktext::writing::put_number;
+use offers::WORDS_PER_ENTRY;
 use rules::Refusal;
 
 const SPACE: u8 = b' ';
 
-const LF: u8 = b'\n';
-
 // Lent bytes, and from which place on the next is written.
 #[derive(Drop)]
 struct Page<'a> {
-    pub bytes: &'a mut [u8],
-    pub at: usize,
+    bytes: &'a mut [u8],
+    at: usize,
 }
 
 impl<'a> Page<'a> {
@@ -26,6 +25,8 @@ impl<'a> Page<'a> {
     ghost use Rattle.report.specs.Report.{yes_no, quiet_or, spaced, line_text};
     ghost use Rattle.report.specs.Printing.{two_text, entries_text, head_text};
     ghost use Rattle.report.specs.Pages.{Fits, Puts};
+
+    // Kept (d): each function asks by `Fits` for another number of bytes, so that no type can hold the fact.
 
     // A word and a byte behind it.
     fn word(&mut self, word: &[u8], end: u8)
@@ -84,16 +85,18 @@ impl<'a> Page<'a> {
     }
 
     // Entry i of the table as a line: AS, type, length, next hop.
+    // Kept (d): the four words by number, since they are printed as they lie; `sheet::rows::row_at` would add a crate to the report's and four fields.
     fn line(&mut self, table: &[u32], i: usize)
         requires { Fits self.old 44 × (4 * i + 4 ≤ length table.now) }
         ensures { Puts self.old (line_text (number_word table.now i) (entry_line table.now i)) self.new }
     {
-        let entry = 4 * i;
+        let entry = WORDS_PER_ENTRY * i;
         self.two(table[entry], table[entry + 1], SPACE);
         self.two(table[entry + 2], table[entry + 3], LF);
     }
 
     // The table's first n entries, a line for each.
+    // Kept (d): `lines(&table[..4 * n])` would divide by four again what the caller has counted, in its loop and in its contract.
     fn lines(&mut self, table: &[u32], n: usize)
         requires { Fits self.old (44 * n) × (4 * n ≤ length table.now) }
         ensures { Puts self.old (entries_text table.now 0 n) self.new }
@@ -109,8 +112,8 @@ impl<'a> Page<'a> {
         ensures { Puts self.old (head_text told) self.new }
     {
         self.count(b"destination", told.end.destination);
-        self.finding(b"customer-ring", told.ring);
-        self.finding(b"joined", told.joined);
+        self.finding(b"customer-ring", told.found.ring);
+        self.finding(b"joined", told.found.joined);
     }
 }
 

@@ -14,6 +14,9 @@ use table::accepted_table;
 // No choices: the lowest waiting direction is delivered from the start.
 const NO_CHOICES: [u32; 0] = [];
 
+// Kept (d): network and end of run are asked for side by side, as `Accepted` says of both: what is told holds the end and outlives the
+// words that the network borrows, so an end with the network in it would be a second type.
+
 // What is told with the two findings on the links.
 fn with_findings(
     network: Network<'_>,
@@ -25,11 +28,7 @@ fn with_findings(
     ensures room_after { room.new ≡ replicate (length room.old) 0 }
 {
     let found = find_accepted(network.words, network.ases, room)?;
-    Ok(Told {
-        end,
-        ring: found.ring,
-        joined: found.joined,
-    })
+    Ok(Told { end, found })
 }
 
 // The lines that are printed. Where the run is quiet they are the stable table's: the lines that every order of deliveries ends on, and
@@ -40,18 +39,20 @@ fn settle(
     end: Ending,
     table: &mut [u32; TABLE_WORDS],
     room: &mut [u32; ROOM_WORDS],
-)
+) -> Result<(), Refusal>
     requires { Accepted network.words.now end.count end.destination }
+    ensures value { result ≡ Ok tt }
     ensures table_after { table.new ≡ settled (links_of network.entry.words.now) end.destination end.quiet table.old }
     ensures room_len_unchanged { length room.new ≡ length room.old }
 {
     if end.quiet {
-        let _ = accepted_table(network.words, end.destination, table, room);
+        accepted_table(network.words, end.destination, table, room)?;
     }
+    Ok(())
 }
 
 // Lines and findings where the run has ended.
-// Kept: table and room go on side by side; a struct of the two would need a clause for each one's loan in every function.
+// Kept (d): table and room go on side by side; a struct of the two would need a clause for each one's loan in every function.
 fn tell(
     network: Network<'_>,
     end: Ending,
@@ -63,7 +64,7 @@ fn tell(
     ensures table_after { table.new ≡ settled (links_of network.entry.words.now) end.destination end.quiet table.old }
     ensures room_after { room.new ≡ replicate (length room.old) 0 }
 {
-    settle(network, end, table, room);
+    settle(network, end, table, room)?;
     with_findings(network, end, room)
 }
 

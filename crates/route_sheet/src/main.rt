@@ -11,6 +11,7 @@ const INPUT_BYTES: usize = 65537;
 
 fn main(rt: HostRuntime) -> io::Result<()> {
     let mut input = [0u8; INPUT_BYTES];
+    // Kept (a): the customers know the program's room by this number.
     let mut room = [0u32; 16384];
     let mut out = [0u8; REPORT_BYTES];
     let read = io::copy(

@@ -1,5 +1,5 @@
 // Every cut and every single-byte change of the worked sheet, judged: number and place of each refusal, 0 and 0 where it passes. What it
-// prints is held to the file stdout, which the second program wrote.
+// prints is held to the file stdout, which a program that is no part of this library wrote.
 #![tactic(auto)]
 
 use std::io;
@@ -45,8 +45,12 @@ fn main(rt: HostRuntime) -> io::Result<()> {
     let mut table = [0u32; 20];
     let mut room = [0u32; 80];
     let mut sheet = [0u8; BYTES];
-    let _ = table::stable_table(&NETWORK_A, 40, &mut table, &mut room);
-    let _ = sheet::write_sheet(&NETWORK_A, 40, &table, &mut sheet);
+    if let Err(why) = table::stable_table(&NETWORK_A, 40, &mut table, &mut room) {
+        return println!(&rt; "{why}");
+    }
+    if let Err(why) = sheet::write_sheet(&NETWORK_A, 40, &table, &mut sheet) {
+        return println!(&rt; "{why}");
+    }
     say_cuts(&rt, &sheet)?;
     say_changes(&rt, sheet)
 }

@@ -9,6 +9,7 @@ use lib.Dec.{leb}
 use lib.ListN.{length}
 use borrow.Author.Tests.{le-leb, lt-leb, leb-false, lt-ltb}
 use Rattle.std.specs.Prelude.{Err, Ok, Result}
+use Rattle.std.proofs.Common.{◌⊎◌, inl, inr}
 use Rattle.std.specs.Result.{ForErr}
 use Rattle.rules.specs.Replies.{Verdict}
 use Rattle.rules.specs.declared.Link.{Link}
@@ -171,11 +172,9 @@ module _ (t : List ℕ) (d : ℕ) (cs : List ℕ) (n : ℕ) (table : List ℕ) w
       test_fails (leb (length t) 65536 && leb (length cs) 65536 && leb n 65536) OverLimit _
       (and_assoc (leb (length t) 65536) (leb (length cs) 65536) (leb n 65536) ∙ and_no (leb (length t) 65536) _ e)
 
-  pub many_choices : 65536 < length cs → {r : Result ℕ Refusal} → r ≡ Err OverLimit → Replied r table
-  many_choices h = run_refused OverLimit (run_limits (rw (lt-leb (length cs) 65536 h)))
-
-  pub many_deliveries : 65536 < n → {r : Result ℕ Refusal} → r ≡ Err OverLimit → Replied r table
-  many_deliveries h = run_refused OverLimit (run_limits (and_no (leb (length cs) 65536) _ (lt-leb n 65536 h)))
+  pub too_many : (65536 < length cs) ⊎ ((length cs ≤ 65536) × (65536 < n)) → {r : Result ℕ Refusal} → r ≡ Err OverLimit → Replied r table
+  too_many (inl h) = run_refused OverLimit (run_limits (rw (lt-leb (length cs) 65536 h)))
+  too_many (inr (few, h)) = run_refused OverLimit (run_limits (and_no (leb (length cs) 65536) _ (lt-leb n 65536 h)))
 
   module _ (few : length cs ≤ 65536) (some : n ≤ 65536) where
     within : (leb (length cs) 65536 && leb n 65536) ≡ true

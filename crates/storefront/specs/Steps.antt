@@ -5,7 +5,7 @@
 --   packed_reply r     a reply as one number; valued v n   the value n where the verdict passes, or the refusal
 --   told_sheet, told_judging, told_findings, told_run   what is replied to a text, before it is packed
 --   Given t ws         the words ws are those of the links of the text t
---   ReadText t r ws    reading the text t: the words of its links stand first in ws, up to the end that r says; or r is its refusal
+--   ReadList t end ws  the words of the links of the text t stand first in ws, up to the end
 --   room_words         the room
 --   Stably ws d old r table   the reply r of the stable table, and the table that was `old`
 --   Tabulated ws d old r table   the same, with the number of the table's words
@@ -61,10 +61,6 @@ pub record Given (t ws : List ℕ) : Type 0 where
 pub record ReadList (t : List ℕ) (end : ℕ) (ws : List ℕ) : Type 0 where
   pub within : end ≤ length ws
   pub given : Given t (take end ws)
-
-abbrev pub ReadText : List ℕ → Result ℕ Refusal → List ℕ → Type 0
-ReadText t (Ok end) ws = ReadList t end ws
-ReadText t (Err why) ws = fault_of_network base_limits t ≡ Err why
 
 -- 'working room of 16,384 words always suffices'
 abbrev pub room_words : ℕ

@@ -35,6 +35,7 @@ pub fn bostuvrel_findings(text: &[u8]) -> u64
 }
 
 // A run over the links of a text: deliveries, idle choices and quiet; the table gets the lines of that moment.
+// Kept (a): five parameters, since this is the public function that C programs call.
 pub fn bostuvrel_run(
     text: &[u8],
     destination: u32,

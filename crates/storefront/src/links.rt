@@ -28,13 +28,12 @@ fn check(links: &[Link]) -> Result<u64, Refusal>
 pub fn bostuvrel_table(links: &[Link], destination: u32, table: &mut [u32]) -> u64
     ensures { PageTabled base_limits (flat links.now) destination table.old result table.new }
 {
-    pack::reply(tabulate(records::load(links), destination, table))
+    pack::reply(tabulate(&records::load(links), destination, table))
 }
 
 // The same of loaded links, before it is packed.
-// Kept: the links' words are handed on by value: so they lie on the stack once.
-fn tabulate(list: Words, destination: u32, table: &mut [u32]) -> Result<u64, Refusal>
-    ensures { Holding list (λ ws. Tabulated ws destination table.old result table.new) }
+fn tabulate(list: &Words, destination: u32, table: &mut [u32]) -> Result<u64, Refusal>
+    ensures { Holding list.now (λ ws. Tabulated ws destination table.old result table.new) }
 {
     words::stable_table(list.link_words()?, destination, table)
 }

@@ -7,7 +7,7 @@ ghost use Rattle.storefront.specs.Steps.{valued, told_lines, final_lines};
 
 use super::words::tabulate;
 use network::Network;
-use rules::Refusal;
+use rules::{Limits, Refusal};
 use sheet::rows::WORDS_PER_LINE;
 use sheet::{BYTES_PER_LINE, HEAD_BYTES, writing};
 
@@ -20,12 +20,12 @@ pub fn make(words: &[u32], destination: u32, sheet: &mut [u8]) -> Result<u64, Re
 }
 
 // The same of an accepted network.
-// Kept: a function of its own, so that the check's memory is free when table and room are taken: the stack is fixed.
+// Kept (a): a function of its own, so that the check's memory is free when table and room are taken: the stack is fixed.
 fn make_for(network: Network<'_>, destination: u32, sheet: &mut [u8]) -> Result<u64, Refusal>
     ensures reply { result ≡ told_lines network.entry.words.now destination (length sheet.old) }
     ensures bytes { sheet.new ≡ final_lines network.entry.words.now destination sheet.old }
 {
-    let mut table = [0u32; 2048];
+    let mut table = [0u32; WORDS_PER_LINE * Limits::BASE.ases];
     tabulate(network, destination, &mut table)?;
     write(&table[..WORDS_PER_LINE * network.ases], destination, sheet)
 }

@@ -1,5 +1,5 @@
 // Judge, findings, machine and stable table on link words, each in a room of its own, which always suffices.
-// Kept: a room in each of the four; a closure over one room is no shorter, for its contract would say what each leaves in lent memory again.
+// Kept (d): a room in each of the four; a closure over one room is no shorter, for its contract would say what each leaves in lent memory again.
 ghost use Rattle.std.specs.Prelude.{◌≡◌, length};
 ghost use Rattle.rules.specs.Checks.{base_limits};
 ghost use Rattle.findings.specs.Entries.{findings_reply};
@@ -14,6 +14,7 @@ use rules::Refusal;
 use sheet::rows::WORDS_PER_LINE;
 
 // The room's words.
+// Kept (d): `report` has such a constant for the program's room; the storefront would take in the whole program for it.
 const ROOM_WORDS: usize = 16384;
 
 // The judge on a sheet for the links.
@@ -32,7 +33,7 @@ pub fn find(words: &[u32]) -> Result<Found, Refusal>
 }
 
 // The findings on an accepted network.
-// Kept: a function of its own, so that the check's memory is free when the room is taken: the stack is fixed.
+// Kept (a): a function of its own, so that the check's memory is free when the room is taken: the stack is fixed.
 fn find_in(network: Network<'_>) -> Result<Found, Refusal>
     ensures { result ≡ findings_reply base_limits network.entry.words.now room_words }
 {
@@ -41,6 +42,7 @@ fn find_in(network: Network<'_>) -> Result<Found, Refusal>
 }
 
 // A run over the links; the table gets the lines of that moment.
+// Kept (a): five parameters here and in `text::run`, as the export `bostuvrel_run` takes them and the public `machine::run` wants them.
 pub fn run(
     words: &[u32],
     destination: u32,

@@ -1,5 +1,7 @@
 // What a C or Rust program links: an export for each function of `storefront` that the storefront's server calls, under the same name and
 // with its clauses again.
+// Kept (a): the exports are the C interface, on numbers and slices and with the clauses that hold for a C program; `storefront` stays a library
+// that other crates can depend on, which a static library cannot be.
 #![tactic(auto)]
 
 ghost use Rattle.std.specs.Prelude.{◌≡◌, length};

@@ -5,5 +5,5 @@ use Rattle.report.proofs.input.text_from.Goals as goal
 pub returns-then-end-input : goal.returns-then-end-input
 returns-then-end-input c = behind_lf c.args.input.now c.args.end c.requires c.if-end-input.true
 
-pub returns : goal.returns
-returns c = behind_all c.args.input.now c.args.end c.requires c.if-end-input.false
+pub returns-else-end-input : goal.returns-else-end-input
+returns-else-end-input c = behind_all c.args.input.now c.args.end c.requires c.if-end-input.false

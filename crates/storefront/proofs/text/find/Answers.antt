@@ -7,8 +7,7 @@ use Rattle.storefront.proofs.text.find.Goals as goal
 pub returns-in_err-found : goal.returns-in_err-found
 returns-in_err-found c =
     let passed : c.from_residual-in_err-found.result ≡ Err c.in_err-found.field-0.0 = search rules in
-    let read = c.in_ok-end.ensures in
-    found_refused _ _ read.given c.in_err-found.ensures passed
+    found_refused _ _ c.in_ok-read.ensures c.in_err-found.ensures passed
 
 pub returns : goal.returns
-returns c = (let read = c.in_ok-end.ensures in found_given _ _ read.given _ c.in_ok-found.ensures c.found.ensures)
+returns c = (found_given _ _ c.in_ok-read.ensures _ c.in_ok-found.ensures c.found.ensures)

@@ -13,7 +13,7 @@ pub finding-requires-2 : goal.finding-requires-2
 finding-requires-2 c =
     let told = c.args.told in
     let h = fits_behind 29 c.count.ensures (omega (arith, count_bound word_destination told.end.destination)) in
-    fits_behind 11 c.finding.ensures (omega (arith, finding_bound word_ring told.ring))
+    fits_behind 11 c.finding.ensures (omega (arith, finding_bound word_ring told.found.ring))
 
 pub returns : goal.returns
 unfolding head_text
