@@ -78,6 +78,8 @@ impl Guess {
 
     // The AS at a place is taken away from its providers.
     fn take(&mut self, survey: &Survey<'_>, place: u32) {
+        // Kept (d): a walk along a linked list; the iterator over an index (`Noted` of the crate table) would lend `self.index` while
+        // `lose_customer` changes `self`, and would have to be public in `offers` to serve here.
         let mut noted = scratch::at(&self.index, scratch::head_of(CUSTOMERS, place));
         while 0 < noted {
             let i = (noted - 1) as usize;
@@ -91,6 +93,8 @@ impl Guess {
 }
 
 /// The rank of each AS by its place, 1, 2, 3, .. in the order in which they go; who never goes has 0.
+// Kept (d): 0 for no rank, since ranks are compared as numbers (`may_fall`): an `[Option<u32>; ASES]` would be taken apart at each place, and
+// a room of words is zero to begin with.
 pub fn ranks(survey: &Survey<'_>) -> [u32; ASES] {
     let mut guess = Guess {
         index: [0; INDEX],
@@ -105,7 +109,7 @@ pub fn ranks(survey: &Survey<'_>) -> [u32; ASES] {
     let mut ranks = [0u32; ASES];
     for rank in 1..=ASES as u32 {
         let Some(place) = guess.bare.pop() else {
-            return ranks;
+            break;
         };
         scratch::put(&mut ranks, place as usize, rank);
         guess.take(survey, place);
