@@ -6,7 +6,6 @@ use mathlib.Core.Logic.{◌⊎◌, inl, inr, ◌≢◌}
 use mathlib.Core.Bool.{Bool, true, false, not, ◌&&◌, ◌||◌, false≢true}
 use mathlib.Core.List.{List}
 use native.Mathlib.Omega.{arith}
-use borrow.Author.Count.{below_more}
 use lib.Dec.{eqb, ltb}
 use borrow.Author.Tests.{eq-eqb, ne_eqb, ltb-true}
 use lib.ListN.{length, get_or, set}
@@ -94,12 +93,6 @@ module _ (rk t u : List ℕ) where
   pub Spared-put : (p : ℕ) → Spared rk t u → get_or rk p 0 ≢ 0 → Spared rk t (set u p 0)
   Spared-put p h ne =
       record { unranked = λ k e. get_or-set_other u p k 0 0 (λ d. ne (ap (λ (j : ℕ). get_or rk j 0) (sym d) ∙ e)) ∙ h.unranked k e }
-
--- one link more
-pub falls_next : (ws rk : List ℕ) (i : ℕ) → Falls ws rk i → falls_at ws rk i ≡ true → Falls ws rk (i + 1)
-falls_next ws rk i h e = below_more (λ (k : ℕ). falls_at ws rk k ≡ true) i h e
-
-pub ruleset falling = (falls_next)
 
 pub ruleset spares = (Spared-none, Spared-put)
 

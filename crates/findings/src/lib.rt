@@ -9,7 +9,7 @@ ghost use Rattle.findings.specs.Surveys.{HasFlags};
 ghost use Rattle.findings.specs.Entries.{findings_reply, final_room};
 
 use network::Network;
-use rules::Refusal;
+use rules::{Limits, Refusal};
 use survey::Survey;
 
 mod marks;
@@ -56,9 +56,8 @@ fn look_in(network: Network<'_>, room: &mut [u32]) -> Found
     ensures joined { result.joined ≡ joined (links_of network.entry.words.now) }
     ensures room_after { room.new ≡ replicate (length room.old) 0 }
 {
-    let n = network.ases;
-    let mut list = [0u32; 512];
-    network::list_ases(network.words, &mut list);
+    let mut list = [0u32; Limits::BASE.ases];
+    let n = network::list_ases(network.words, &mut list);
     let (places, flags) = room.split_at_mut(2 * network.links());
     offers::place_ends(network.words, &list, n, places);
     let survey = Survey { network, places };
@@ -84,6 +83,7 @@ fn find_in(network: Network<'_>, room: &mut [u32]) -> Result<Found, Refusal>
 
 /// The findings on link words that the check accepted, three per link, with `n` ASes; or `RoomShort` where the room has fewer words than
 /// `network::room_need` says. The room is zero afterwards; a refusal leaves it as it was.
+// Kept (a): public, with words, count and clause apart, where `find_in` takes a `Network`.
 pub fn find_accepted(words: &[u32], n: usize, room: &mut [u32]) -> Result<Found, Refusal>
     requires { check_words base_limits words.now ≡ Ok n }
     ensures value { result ≡ findings_reply base_limits words.now (length room.old) }

@@ -1,6 +1,7 @@
 //! Peers of one AS, met quickly: over the peer links noted for it alone. Whoever is met so is a peer; that all peers are met is not proved:
 //! where a top is missed, the passes over all links (tops.rt) have the last word.
-ghost use Rattle.std.specs.Prelude.{◌+◌, ◌*◌, ◌≤◌, ◌<◌, length};
+ghost use Rattle.std.specs.Prelude.{◌<◌};
+ghost use Rattle.network.specs.Promises.{HasLink};
 ghost use Rattle.findings.specs.Surveys.{HasFlags};
 ghost use Rattle.findings.specs.Joinings.{Hinted};
 
@@ -24,7 +25,7 @@ pub fn note_peers(survey: &Survey<'_>, index: &mut [u32]) {
 // The chosen AS tells over link i, either way.
 #[tactic(auto, using(crate::proofs::HintLaws::hints))]
 fn meet_over(survey: &Survey<'_>, i: usize, chosen: &[u32], met: &mut [u32])
-    requires within { 3 * i + 3 ≤ length survey.now.network.words.now }
+    requires within { HasLink survey.now.network.words.now i }
     requires sizes { HasFlags survey.now chosen.now × HasFlags survey.now met.old }
     ensures { Hinted survey.now.network.words.now chosen.now met.old met.new }
 {
@@ -45,6 +46,7 @@ pub fn meet_noted_peers(
     requires sizes { HasFlags survey.now chosen.now × HasFlags survey.now met.old }
     ensures { Hinted survey.now.network.words.now chosen.now met.old met.new }
 {
+    // Kept (d): a walk along a linked list, as in order.rt, whose next step is `scratch::noted_before`.
     let mut noted = scratch::at(index, HEADS + p);
     while 0 < noted {
         let i = ((noted - 1) / 2) as usize;

@@ -79,6 +79,8 @@ impl Guess {
     // The AS at a place is taken away from its providers.
     fn take(&mut self, survey: &Survey<'_>, place: u16) {
         let head = scratch::head_of(CUSTOMERS, u32::from(place));
+        // Kept (d): a walk along a linked list; the iterator over an index (`Noted` of the crate table) would lend `self.index` while
+        // `lose_customer` changes `self`, and would have to be public in `offers` to serve here.
         let mut noted = scratch::at(&self.index, head);
         while 0 < noted {
             let i = (noted - 1) as usize;
@@ -92,6 +94,8 @@ impl Guess {
 }
 
 /// The rank of each AS by its place, 1, 2, 3, .. in the order in which they go; who never goes keeps 0.
+// Kept (d): 0 for no rank, since ranks are compared as numbers (`may_fall`): an `[Option<u32>; ASES]` would be taken apart at each place, and
+// a room of words is zero to begin with. Lent and not handed back, so that it takes its place on the stack once.
 pub fn rank(survey: &Survey<'_>, ranks: &mut [u32; ASES]) {
     let mut guess = Guess {
         index: [0; INDEX],
@@ -105,7 +109,7 @@ pub fn rank(survey: &Survey<'_>, ranks: &mut [u32; ASES]) {
     guess.push_bare(survey.network.ases);
     for rank in 1..=ASES as u32 {
         let Some(place) = guess.bare.pop() else {
-            return;
+            break;
         };
         scratch::put(ranks, usize::from(place), rank);
         guess.take(survey, place);

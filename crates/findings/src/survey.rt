@@ -12,7 +12,7 @@ pub enum Way {
     Up,
 }
 
-// Kept: (a) relations are numbers, as `Link::relation` of the crate rules is one.
+// Kept (a): relations are numbers, as `Link::relation` of the crate rules is one.
 /// Between peers.
 pub const PEERS: u32 = 0;
 
@@ -20,7 +20,7 @@ pub const PEERS: u32 = 0;
 pub const PROVIDES: u32 = 1;
 
 /// Accepted links with how many ASes they name, and with two words per link that say where its ends a and b stand among the ascending ASes.
-#[derive(Clone, Copy, Debug)]
+#[derive(Clone, Copy, Debug, PartialEq, Eq)]
 pub struct Survey<'a> {
     pub network: Network<'a>,
     pub places: &'a [u32],
@@ -31,10 +31,12 @@ pub struct Survey<'a> {
     ghost few_links: { length network.words.now ≤ 4608 },
 }
 
-// Kept: (d) each contract says that its lists have a flag for each AS: with survey and lists in one struct, each method would say in its
-// place that survey, served and both loans stay, four clauses for one.
+// Kept (d): `HasFlags`, a flag for each AS, in each contract of this crate. A struct of survey and lists would carry that fact, but each of its
+// methods would have to say instead that the survey and who is served stay, and where both loans lead: four clauses in place of one.
+// Kept (a): a flag is a word, 1 or 0, since the lists of flags are words of the lent room (`find`, `find_accepted`).
 impl<'a> Survey<'a> {
-    ghost use Rattle.std.specs.Prelude.{ℕ, ◌+◌, ◌*◌, ◌≤◌, ◌<◌, ◌≡◌, length, [], ◌∷◌};
+    ghost use Rattle.std.specs.Prelude.{ℕ, ◌<◌, ◌≡◌, [], ◌∷◌};
+    ghost use Rattle.network.specs.Promises.{HasLink};
     ghost use Rattle.rules.specs.Network.{links_of, link_in_words};
     ghost use Rattle.findings.specs.Flags.{place};
     ghost use Rattle.findings.specs.Surveys.{HasFlags};
@@ -43,7 +45,7 @@ impl<'a> Survey<'a> {
     /// Where who tells over link i stands, and where who hears.
     #[tactic(auto, using(crate::proofs::TellerLaws::placed_ends), unfolding(crate::specs::Tellings::teller, crate::specs::Tellings::hearer))]
     pub fn ends(&self, way: Way, i: usize) -> (usize, usize)
-        requires { 3 * i + 3 ≤ length self.now.network.words.now }
+        requires { HasLink self.now.network.words.now i }
         ensures teller { result.0 ≡ place self.now.network.words.now (teller way (link_in_words self.now.network.words.now i)) }
         ensures hearer { result.1 ≡ place self.now.network.words.now (hearer way (link_in_words self.now.network.words.now i)) }
         ensures within { (result.0 < self.now.network.ases) × (result.1 < self.now.network.ases) }
@@ -71,7 +73,7 @@ impl<'a> Survey<'a> {
     /// The pass over link i: if it has the relation, and the AS that tells has its flag set, the flag of the one that hears is set.
     #[tactic(auto, using(crate::proofs::TellLaws::told_link))]
     pub fn tell_over(&self, relation: u32, way: Way, i: usize, from: &[u32], to: &mut [u32])
-        requires within { 3 * i + 3 ≤ length self.now.network.words.now }
+        requires within { HasLink self.now.network.words.now i }
         requires sizes { HasFlags self.now from.now × HasFlags self.now to.old }
         ensures { Told self.now.network.words.now relation way from.now (link_in_words self.now.network.words.now i ∷ []) to.old to.new }
     {

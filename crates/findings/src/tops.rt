@@ -32,7 +32,7 @@ fn set_alone(flags: &mut [u32], p: usize)
 }
 
 /// The tops of a network: who has a provider, and the index by which peers are met quickly.
-#[derive(Clone, Copy, Debug)]
+#[derive(Clone, Copy, Debug, PartialEq, Eq)]
 pub struct Tops<'a> {
     pub survey: Survey<'a>,
     pub served: &'a [u32],
@@ -59,12 +59,15 @@ impl<'a> Tops<'a> {
         self.survey.tell(PEERS, Way::Up, chosen, met);
     }
 
-    // Whether every top is met.
+    // Whether every top is met. The two tests of a place are joined without a branch.
     fn all_met(&self, met: &[u32]) -> bool
         requires { HasFlags self.now.survey met.now }
         ensures { AllMet self.now.served.now met.now result }
     {
-        (0..met.len()).all(|k| (self.served[k] == 1) | (met[k] == 1))
+        self.served
+            .iter()
+            .zip(met)
+            .all(|(served, met)| (*served == 1) | (*met == 1))
     }
 
     // Whether the top at place p is seen to be a peer of every other top, by its own links.
@@ -104,6 +107,8 @@ impl<'a> Tops<'a> {
     }
 
     // Whether every AS is one.
+    // Kept (c): tried, `(0..ases).all(|p| self.meets(p, chosen, met))`: the closure changes its two loans, and what std proves of `all` is for
+    // one that changes nothing.
     #[tactic(auto, using(crate::proofs::MeetLaws::joinings))]
     fn all_meet(&self, chosen: &mut [u32], met: &mut [u32]) -> bool
         requires { HasFlags self.now.survey chosen.old × HasFlags self.now.survey met.old }

@@ -89,9 +89,6 @@ Framed-more a b =
 
 -- entries for ASes, in a table by itself, after another, and with other pairs
 module _ {us t u : List ℕ} (l : Lined us t u) where
-  pub lined_self : Lined us u u
-  lined_self = record { long = refl; number = l.number; next = l.next; rest = λ w h. refl }
-
   pub Lined-more : {v : List ℕ} → Lined us u v → Lined us t v
   Lined-more m = record { long = m.long ∙ l.long; number = m.number; next = m.next; rest = λ w h. m.rest w h ∙ l.rest w h }
 

@@ -1,9 +1,9 @@
 -- Gains over a table: each keeps the table's frame and its lengths within the cap, and lowers its height; a whole pass that gains
 -- nothing finds every way calm. By one step, and along the gains.
 use Prim.Native.Nat.{ℕ, zero, suc, ◌+◌, ◌*◌, ◌/◌, ◌≤◌, ◌<◌}
-use mathlib.Core.Path.{◌≡◌, refl, sym, ◌∙◌, ap}
+use mathlib.Core.Path.{◌≡◌, refl, ◌∙◌, ap}
 use mathlib.Core.Logic.{◌≢◌}
-use mathlib.Core.Bool.{Bool, true, false, cond, ◌||◌, false≢true}
+use mathlib.Core.Bool.{Bool, true, false, cond, ◌||◌}
 use mathlib.Core.List.{List}
 use native.Mathlib.Omega.{arith}
 use native.Mathlib.Nat.{lt_trans}
@@ -131,16 +131,6 @@ module _ {ls : List Link} {ps : List ℕ} {f cap : ℕ} where
           → Moved (CalmBelow (way_of_direction ls ps) f cap (k + 1) t) f cap (length (ases_of ls)) t u (x || false)
       go true m = m
       go false m = (m.0, below_more (λ j. wants f cap t (way_of_direction ls ps j) ≡ false) k m.1 (rw m.0 at want))
-
-  -- what a whole pass says
-  pub Passed-fell : {t u : List ℕ} {k : ℕ} (r : Bool) → Passed ls ps k f cap t u r → r ≡ true
-      → height f cap (length (ases_of ls)) u < height f cap (length (ases_of ls)) t
-  Passed-fell true p e = p.moved
-  Passed-fell false p e = absurd (false≢true e)
-
-  pub Passed-calm : {t u : List ℕ} {k : ℕ} (r : Bool) → Passed ls ps k f cap t u r → r ≡ false → CalmBelow (way_of_direction ls ps) f cap k u
-  Passed-calm true p e = absurd (false≢true (sym e))
-  Passed-calm false p e = rw p.moved.0 p.moved.1
 
 -- What a phase asks --------------------------------------------------------------------------------------------------------
 

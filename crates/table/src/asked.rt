@@ -3,13 +3,16 @@ ghost use Rattle.std.specs.Prelude.{◌≡◌, true, eqb};
 ghost use Rattle.rules.specs.Lists.{any_of};
 ghost use Rattle.rules.specs.Network.{links_of, ases_of};
 
-use crate::{due, hops, phases, quick};
+use crate::due::Best;
+use crate::{phases, quick};
 use network::Network;
 use offers::WORDS_PER_ENTRY;
 use rules::Refusal;
 
 // A question: an accepted network, its ASes in ascending order, and the destination, which is one of them.
-#[derive(Clone, Copy, Debug)]
+// Kept (d): network and ASes side by side, with the fact `listed`: a type of the two would be a public one of the crate network, for this
+// struct and its `new` alone.
+#[derive(Clone, Copy, Debug, PartialEq, Eq)]
 pub struct Question<'a> {
     network: Network<'a>,
     ases: &'a [u32],
@@ -35,9 +38,7 @@ impl<'a> Question<'a> {
         requires { ases.now ≡ ases_of (links_of network.words.now) }
         ensures { MatchResult result (λ q. (q.network.words.now ≡ network.entry.words.now) × (q.ases.now ≡ ases.now) × (q.destination ≡ destination)) (λ e. fault_of_destination destination ases.now ≡ Err e) }
     {
-        if network::place_of(ases, ases.len(), destination).is_none() {
-            return Err(Refusal::NoDestination);
-        }
+        network::place_of(ases, ases.len(), destination).ok_or(Refusal::NoDestination)?;
         Ok(Question {
             network,
             ases,
@@ -70,6 +71,8 @@ impl<'a> Question<'a> {
         quick::guess_pairs(self.network, room, table, n);
     }
 
+    // Kept (d): the length of `best` in three clauses. As a field it would be one ghost fact, and each method would have to say instead that it
+    // keeps the loan.
     // The lines as they settle without a guess, whatever the table has, and the best offers under them.
     fn settle_lines(self, table: &mut [u32], places: &[u32], best: &mut [u32])
         requires { (4 * length self.ases.now ≤ length table.old) × Placed (links_of self.network.words.now) places.now × (4 * length self.ases.now ≤ length best.old) }
@@ -81,6 +84,16 @@ impl<'a> Question<'a> {
         offers::elect_links(self.network.words, places, table, best, n);
     }
 
+    // The best offers to the destination.
+    fn best(self, offers: &[u32]) -> Best<'_>
+        ensures { (result.offers.now ≡ offers.now) × (result.destination ≡ self.entry.destination) }
+    {
+        Best {
+            offers,
+            destination: self.destination,
+        }
+    }
+
     // Lines that are due, each under the others, and the best offers under them: those of the table, if the election gives them again,
     // and else the settled ones. So rightness rests on the election, and the guess is for speed alone.
     fn choose_lines(self, table: &mut [u32], places: &[u32], best: &mut [u32])
@@ -89,10 +102,9 @@ impl<'a> Question<'a> {
     {
         let n = self.ases.len();
         offers::elect_links(self.network.words, places, table, best, n);
-        if due::agrees(table, best, n, self.destination) {
-            return;
+        if !self.best(best).agrees(table, n) {
+            self.settle_lines(table, places, best);
         }
-        self.settle_lines(table, places, best);
     }
 
     // The whole table. The best offers are found in a table that is lent for them, and the room is cleared.
@@ -102,7 +114,7 @@ impl<'a> Question<'a> {
     {
         self.guess_lines(table, room);
         self.choose_lines(table, room, best);
-        hops::take_hops(table, best, self.ases.len(), self.destination);
-        network::clear(room);
+        self.best(best).put_hops(table, self.ases.len());
+        room.fill(0);
     }
 }

@@ -1,33 +1,68 @@
-// Whether every pair of the table is the one that is due: origin at the destination, and else the best offer's.
-// Kept: n beside the tables, as in `offers`: an entry is four words, so a slice of n entries would be cut, and its length divided, by four.
+// What is due at each entry of a table, where another table holds the best offers under it: a pair and a next hop.
+// Kept (d): n beside the table: in `&table[..4 * n]` the number of entries would be a length divided by four again, and a caller's words
+// beyond 4n stay by a clause either way.
 ghost use Rattle.std.specs.Prelude.{◌+◌, ◌*◌, ◌≤◌, ◌≡◌, true, length};
-ghost use Rattle.table.specs.Steps.{pair_due, IsDue, Agrees};
+ghost use Rattle.table.specs.Steps.{pair_due, due_hop, IsDue, Agrees, Hopped};
 
 use rules::TypeLength;
 
-// The pair that is due at entry i.
-fn due_at(table: &[u32], best: &[u32], i: usize, destination: u32) -> TypeLength
-    requires { (4 * i + 4 ≤ length table.now) × (4 * i + 4 ≤ length best.now) }
-    ensures { result ≡ pair_due destination table.now best.now i }
-{
-    if offers::number_at(table, i) == destination {
-        return TypeLength::ORIGIN;
+// The best offers under a table, entry by entry, and the destination that they lead to.
+#[derive(Clone, Copy, Debug, PartialEq, Eq)]
+pub struct Best<'a> {
+    pub offers: &'a [u32],
+    pub destination: u32,
+}
+
+impl Best<'_> {
+    // The pair that is due at entry i: origin at the destination, and else the best offer's.
+    fn pair_due(self, table: &[u32], i: usize) -> TypeLength
+        requires { (4 * i + 4 ≤ length table.now) × (4 * i + 4 ≤ length self.offers.now) }
+        ensures { result ≡ pair_due self.entry.destination table.now self.entry.offers.now i }
+    {
+        if offers::number_at(table, i) == self.destination {
+            TypeLength::ORIGIN
+        } else {
+            offers::pair_at(self.offers, i)
+        }
     }
-    offers::pair_at(best, i)
-}
 
-// Whether it is the table's.
-fn is_due_at(table: &[u32], best: &[u32], i: usize, destination: u32) -> bool
-    requires { (4 * i + 4 ≤ length table.now) × (4 * i + 4 ≤ length best.now) }
-    ensures { result ≡ true → IsDue destination table.now best.now i }
-{
-    due_at(table, best, i, destination) == offers::pair_at(table, i)
-}
+    // The next hop that is due: the table's own at the destination, and else the best offer's.
+    fn hop_due(self, table: &[u32], i: usize) -> u32
+        requires { (4 * i + 4 ≤ length table.now) × (4 * i + 4 ≤ length self.offers.now) }
+        ensures { result ≡ due_hop self.entry.destination table.now self.entry.offers.now i }
+    {
+        if offers::number_at(table, i) == self.destination {
+            offers::next_at(table, i)
+        } else {
+            offers::next_at(self.offers, i)
+        }
+    }
 
-// Whether it is, at each of the first n entries.
-pub fn agrees(table: &[u32], best: &[u32], n: usize, destination: u32) -> bool
-    requires { (4 * n ≤ length table.now) × (4 * n ≤ length best.now) }
-    ensures { result ≡ true → Agrees destination table.now best.now n }
-{
-    (0..n).all(|i| is_due_at(table, best, i, destination))
+    // Whether entry i has the pair that is due.
+    fn agrees_at(self, table: &[u32], i: usize) -> bool
+        requires { (4 * i + 4 ≤ length table.now) × (4 * i + 4 ≤ length self.offers.now) }
+        ensures { result ≡ true → IsDue self.entry.destination table.now self.entry.offers.now i }
+    {
+        self.pair_due(table, i) == offers::pair_at(table, i)
+    }
+
+    // Whether each of the first n entries has.
+    pub fn agrees(self, table: &[u32], n: usize) -> bool
+        requires { (4 * n ≤ length table.now) × (4 * n ≤ length self.offers.now) }
+        ensures { result ≡ true → Agrees self.entry.destination table.now self.entry.offers.now n }
+    {
+        (0..n).all(|i| self.agrees_at(table, i))
+    }
+
+    // The first n entries get the next hops that are due.
+    pub fn put_hops(self, table: &mut [u32], n: usize)
+        requires { (4 * n ≤ length table.old) × (4 * n ≤ length self.offers.now) }
+        ensures { Hopped self.entry.destination self.entry.offers.now n table.old table.new }
+    {
+        for i in 0..n {
+            let pair = offers::pair_at(table, i);
+            let next = self.hop_due(table, i);
+            offers::put_line(table, i, pair, next);
+        }
+    }
 }

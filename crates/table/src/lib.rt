@@ -8,16 +8,17 @@ ghost use Rattle.table.specs.Entries.{Tabled};
 
 use asked::Question;
 use network::Network;
-use rules::Refusal;
+use offers::WORDS_PER_ENTRY;
+use rules::{Limits, Refusal};
 
 mod asked;
 mod due;
-mod hops;
 mod notes;
 mod phases;
 mod quick;
 
 // The stable table of accepted links, or refusal 7 or 8. The lists of ASes and of best offers hold 512 ASes.
+// Kept (a): public, so that link words with a clause stand here, where the rest of the crate takes a `Network`.
 pub fn accepted_table(
     words: &[u32],
     destination: u32,
@@ -27,12 +28,12 @@ pub fn accepted_table(
     requires { fault_of_links base_limits words.now ≡ Ok tt }
     ensures { Tabled base_limits words.now destination table.old room.old result table.new room.new }
 {
-    let mut list = [0u32; 512];
+    let mut list = [0u32; Limits::BASE.ases];
     let ases = network::list_ases(words, &mut list);
     let network = Network { words, ases };
     let question = Question::new(network, &list[..ases], destination)?;
     question.fits(table.len(), room.len())?;
-    let mut best = [0u32; 2048];
+    let mut best = [0u32; WORDS_PER_ENTRY * Limits::BASE.ases];
     question.answer(table, room, &mut best);
     Ok(())
 }

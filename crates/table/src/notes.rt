@@ -1,12 +1,20 @@
 // What a guess (quick.rt) notes in scratch memory: links in an index, and ASes that wait on a shelf to tell what they have. A link or an
 // AS is marked there by one more than its number, so that 0 is none.
-// Kept: marks in memory, since scratch memory is words; what reads them gives an Option or an iterator.
+// Kept (d): marks in memory, since scratch memory is words, zero to begin with; what reads them gives an Option or an iterator.
+// Kept (a): types and relations are numbers, as `TypeLength::typ` and `Link::relation` of the crate rules are (quick.rt too).
 ghost use Rattle.std.specs.Prelude.{◌<◌, IfSome};
 ghost use Rattle.std.specs.Iterator.{at_most};
 ghost use Rattle.network.specs.Promises.{count_of};
 
 use network::Network;
 use offers::scratch;
+
+// An end of a link: a, the provider if the link has one, or b. Its number is that of its word among the link's places.
+#[derive(Clone, Copy, Debug, PartialEq, Eq)]
+pub enum End {
+    A,
+    B,
+}
 
 // The passes over provider links: up, providers hear their customers, and down, customers hear their providers.
 #[derive(Clone, Copy, Debug, PartialEq, Eq)]
@@ -16,21 +24,20 @@ pub enum Pass {
 }
 
 impl Pass {
-    // The end of a provider link that hears, by its word among the places: the provider stands first.
-    pub fn hearer(self) -> usize
-        ensures { result < 2 }
-    {
+    // The end of a provider link that hears.
+    pub fn hearer(self) -> End {
         match self {
-            Pass::Up => 0,
-            Pass::Down => 1,
+            Pass::Up => End::A,
+            Pass::Down => End::B,
         }
     }
 
     // The end that tells.
-    fn teller(self) -> usize
-        ensures { result < 2 }
-    {
-        1 - self.hearer()
+    fn teller(self) -> End {
+        match self {
+            Pass::Up => End::B,
+            Pass::Down => End::A,
+        }
     }
 
     // The type of the lines that are heard.
@@ -43,9 +50,14 @@ impl Pass {
 }
 
 // The index (offers::scratch) notes links. Its heads: by places the provider links over which the AS there tells, and all peer links.
-const HEADS: usize = 1536;
+const HEADS: usize = scratch::LINKS;
 
-pub const PEERS: usize = 2048;
+pub const PEERS: usize = HEADS + scratch::ASES;
+
+// How many words the index has, and the shelf.
+pub const INDEX: usize = PEERS + 1;
+
+pub const SHELF: usize = 2 * scratch::ASES + 1;
 
 // The head of the links over which the AS at a place tells.
 pub fn head_of(place: u32) -> usize {
@@ -56,7 +68,7 @@ pub fn head_of(place: u32) -> usize {
 fn note_link(network: Network<'_>, places: &[u32], index: &mut [u32], pass: Pass, i: usize)
     requires { i < count_of network.words.now }
 {
-    let teller = scratch::at(places, 2 * i + pass.teller());
+    let teller = scratch::at(places, 2 * i + pass.teller() as usize);
     let head = if network::link_at(network.words, i).relation == 1 {
         head_of(teller)
     } else {
@@ -73,7 +85,7 @@ pub fn note_links(network: Network<'_>, places: &[u32], index: &mut [u32], pass:
 }
 
 // The links under a head of the index, from the one that was noted last.
-#[derive(Clone, Copy, Debug)]
+#[derive(Clone, Copy, Debug, PartialEq, Eq)]
 pub struct Noted<'a> {
     index: &'a [u32],
     mark: u32,
@@ -101,12 +113,11 @@ impl<'a> Iterator for Noted<'a> {
 }
 
 // Where an end of a link stands.
-pub fn place_of(places: &[u32], link: u32, end: usize) -> u32
-    requires { end < 2 }
-{
-    scratch::at(places, 2 * (link as usize) + end)
+pub fn place_of(places: &[u32], link: u32, end: End) -> u32 {
+    scratch::at(places, 2 * (link as usize) + end as usize)
 }
 
+// Kept (d): a stack for each length, in one list of words; the one stack of findings (order.rt) is an array with its height.
 // ASes wait on a shelf, in a stack for each length. Words to ASES: the mark on top, by length. Words past the one there, which stays 0:
 // the mark below, by place.
 

@@ -1,5 +1,5 @@
 // The three phases by one pass: phase f gives lines of type f, over one direction after the other, until a pass changes nothing.
-// Kept: a phase is a number, since it is the type of the lines that it gives, which is one in `rules`.
+// Kept (a): a phase is a number, since it is the type of the lines that it gives, and `TypeLength::typ` of the crate rules is one.
 ghost use Rattle.std.specs.Prelude.{◌*◌, ◌≡◌, length};
 ghost use Rattle.rules.specs.Network.{links_of};
 ghost use Rattle.table.specs.Phases.{offered_at, gains, Joins, Taken, Ready, Phased};
@@ -16,11 +16,13 @@ fn offered(table: &[u32], way: Way) -> TypeLength
     offers::pair_at(table, way.neighbour).extended(way.kind, way.cost)
 }
 
-// Whether an offered pair is of the phase's type, within the cap, and better than an AS's own.
+// Whether an offered pair is of the phase's type, within the cap, and better than an AS's own. The tests are joined
+// without a branch.
+#[tactic(auto, unfolding(rules::specs::Pairs::beats_of))]
 fn gains(pair: TypeLength, own: TypeLength, phase: u32, cap: u32) -> bool
     ensures { result ≡ gains phase cap pair own }
 {
-    ((pair.typ == phase) & (pair.length <= cap)) & pair.beats(own)
+    ((pair.typ == phase) & (pair.length <= cap)) & (pair < own)
 }
 
 // The hearer of a direction takes the pair that it is offered if it gains by it. Whether it does.
@@ -29,12 +31,12 @@ fn take_offer(table: &mut [u32], way: Way, phase: u32, cap: u32) -> bool
     ensures { Taken phase cap table.old way table.new result }
 {
     let pair = offered(table, way);
-    if gains(pair, offers::pair_at(table, way.hearer), phase, cap) {
+    let gained = gains(pair, offers::pair_at(table, way.hearer), phase, cap);
+    if gained {
         let next = offers::next_at(table, way.hearer);
         offers::put_line(table, way.hearer, pair, next);
-        return true;
     }
-    false
+    gained
 }
 
 // A table that settles: the network, the places of the links' ends, the table of its ASes, and a cap on the lengths in it.

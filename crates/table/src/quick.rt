@@ -3,14 +3,13 @@
 ghost use Rattle.std.specs.Prelude.{◌*◌, ◌≤◌, length};
 ghost use Rattle.table.specs.Guess.{Guessing, Guessed};
 
-use crate::notes;
-use crate::notes::{Noted, Pass};
+use crate::notes::{self, End, Noted, Pass};
 use network::Network;
 use rules::TypeLength;
 
 // A guess at work: where the ends of the links stand, the links that are noted for its pass, the table with its first n entries, and
 // the ASes that wait to tell.
-// Kept: n beside the table, whose words beyond 4n stay: an index is then tested by one comparison, and no length is divided by four.
+// Kept (d): n beside the table: with `&mut table[..4 * n]` as the field, n would be `self.table.len() / WORDS_PER_ENTRY` at each of its places.
 #[derive(Drop)]
 struct Guess<'a> {
     places: &'a [u32],
@@ -52,13 +51,11 @@ impl<'a> Guess<'a> {
     fn told(&self, teller: usize, typ: u32) -> Option<TypeLength>
         ensures { IfSome result (λ pair. (teller < self.now.n) × (pair.length < self.now.n)) }
     {
-        if teller < self.n {
-            let length = self.pair_at(teller).length + 1;
-            if (length as usize) < self.n {
-                return Some(TypeLength { typ, length });
-            }
+        if self.n <= teller {
+            return None;
         }
-        None
+        let length = self.pair_at(teller).length + 1;
+        ((length as usize) < self.n).then_some(TypeLength { typ, length })
     }
 
     // The AS at a place takes a pair.
@@ -147,7 +144,7 @@ impl<'a> Guess<'a> {
         };
         if hearer < self.n {
             let told = self.pair_at(teller).typ == 1;
-            if told & pair.beats(self.pair_at(hearer)) {
+            if told & (pair < self.pair_at(hearer)) {
                 self.take(hearer, pair);
             }
         }
@@ -159,21 +156,22 @@ impl<'a> Guess<'a> {
         ensures { Keeps self.old self.new }
     {
         for link in Noted::under(self.index, notes::PEERS) {
-            let a = notes::place_of(self.places, link, 0) as usize;
-            let b = notes::place_of(self.places, link, 1) as usize;
+            let a = notes::place_of(self.places, link, End::A) as usize;
+            let b = notes::place_of(self.places, link, End::B) as usize;
             self.hear_peer(a, b);
             self.hear_peer(b, a);
         }
     }
 }
 
+// Kept (d): network, places, table and n are apart in what makes the `Guess`, which holds them from there on.
 // All that is told over customer links, and then over peer links; or all that is told over provider links.
 fn guess_pass(network: Network<'_>, places: &[u32], table: &mut [u32], n: usize, pass: Pass)
     requires { Guessing n table.old }
     ensures { Guessed n table.old table.new }
 {
-    let mut index = [0u32; 2049];
-    let mut shelf = [0u32; 1025];
+    let mut index = [0u32; notes::INDEX];
+    let mut shelf = [0u32; notes::SHELF];
     notes::note_links(network, places, &mut index, pass);
     let mut guess = Guess {
         places,

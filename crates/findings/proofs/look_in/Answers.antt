@@ -1,5 +1,5 @@
 -- The first words of the room are the places, and the links are accepted.
-use Rattle.std.proofs.Common.{◌≡◌, ◌∙◌, length, arith, ◌*◌, ◌/◌}
+use Rattle.std.proofs.Common.{◌≡◌, ◌∙◌, sym, ◌≤◌, length, length-take, arith, ◌*◌, ◌/◌}
 use Rattle.findings.proofs.EntryLaws.{placed_whole, ases_counted, ases_few, links_few}
 use Rattle.findings.proofs.look_in.Goals as goal
 
@@ -15,3 +15,17 @@ invariant_of-survey c =
       few_ases = ases_few ws c.args.network.ases ok;
       few_links = links_few ws c.args.network.ases ok;
     }
+
+pub split_at_mut-chosen-requires : goal.split_at_mut-chosen-requires
+split_at_mut-chosen-requires c =
+    let counted : c.list_ases-n.result ≡ c.args.network.ases
+    = c.list_ases-n.ensures.count ∙ sym (ases_counted c.args.network.words.now c.args.network.ases c.args.network.accepted) in
+    omega (arith, counted, c.requires, c.links.ensures, c.split_at_mut-places.ensures.back_len, c.split_at_mut-left.ensures.back_len, c.split_at_mut-served.ensures.back_len)
+
+pub slice_bounds-look-end : goal.slice_bounds-look-end
+slice_bounds-look-end c =
+    let counted : c.list_ases-n.result ≡ c.args.network.ases
+    = c.list_ases-n.ensures.count ∙ sym (ases_counted c.args.network.words.now c.args.network.ases c.args.network.accepted) in
+    let long : c.list_ases-n.result ≤ length c.split_at_mut-chosen.result.1.now
+    = omega (arith, counted, c.requires, c.links.ensures, c.split_at_mut-places.ensures.back_len, c.split_at_mut-left.ensures.back_len, c.split_at_mut-served.ensures.back_len, c.split_at_mut-chosen.ensures.back_len) in
+    simp length-take (omega (arith, long))
