@@ -5,6 +5,7 @@ ghost use Rattle.machine.specs.Index.{Indexing, NoHeads, HasHead, with_direction
 use super::room::{self, Part};
 
 // The first n ASes hear over no direction yet.
+// Kept (a): 2m for none, since the links of a list are words of the lent room; what walks along them goes on while the word is a direction.
 fn lay_heads(room: &mut [u32], m: usize, n: usize)
     requires { (8 * m + n ≤ length room.old) × (m ≤ 1536) }
     ensures { NoHeads m n room.old room.new }

@@ -17,6 +17,8 @@ pub enum Part {
 }
 
 // Word k of a part of the room of m links.
+// Kept (d): the room and its m, here and in index.rt and start.rt. `Machine` is the struct that has both, once the room is laid; one for the
+// laying would hold no fact of them, since each step there changes what the room has.
 pub fn word_at(room: &[u32], m: usize, part: Part, k: usize) -> u32
     requires { start_of part m + k < length room.now }
     ensures { result ≡ get_or room.now (start_of part m + k) 0 }
@@ -44,9 +46,10 @@ pub fn hearer_at(room: &[u32], k: usize) -> usize
 const UNIT: u32 = 268435456;
 
 // Nothing waits.
+// Kept (a): the lent room is words, a form that the customers named, so that nothing waits is a word too; `Machine::waits` alone reads it.
 pub const NOTHING: u32 = 0;
 
-// Kept: (d) no `From`: the pair is another crate's type, and only one whose word fits has a word.
+// Kept (d): no `From`: the pair is another crate's type, and only one whose word fits has a word.
 pub fn pack_pair(pair: TypeLength) -> u32
     requires { pair_word pair < 4294967296 }
     ensures { result ≡ pair_word pair }

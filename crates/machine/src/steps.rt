@@ -12,7 +12,7 @@ impl<'a> Machine<'a> {
     ghost use Rattle.offers.specs.Passes.{as_offer};
     ghost use Rattle.offers.specs.Steps.{Fair};
     ghost use Rattle.offers.specs.Ways.{way_of_direction};
-    ghost use Rattle.machine.specs.Room.{pair_word, hearer_word, net_of, ases_in, as_at};
+    ghost use Rattle.machine.specs.Room.{pair_word, pair_of, held_word, hearer_word, net_of, ases_in, as_at};
     ghost use Rattle.machine.specs.Steps.{held_over, Heard, held_offer};
     ghost use Rattle.machine.specs.States.{Stays, Moves, Takes, Amends, Delivers};
 
@@ -35,6 +35,14 @@ impl<'a> Machine<'a> {
         offers::way_at(self.words, self.room, k)
     }
 
+    // The pair that is held on direction k.
+    fn held(&self, k: usize) -> TypeLength
+        requires { k < 2 * self.now.links }
+        ensures { result ≡ pair_of (held_word self.now.links self.now.room.now k) }
+    {
+        room::unpack_pair(self.word(Part::Held, k))
+    }
+
     // What is offered over direction k, which is a way, with the pair held there.
     fn offered(&self, k: usize, way: Way) -> Offered
         requires direction { k < 2 * self.now.links }
@@ -42,7 +50,7 @@ impl<'a> Machine<'a> {
         ensures { result ≡ held_offer self.now.links self.now.table.now self.now.room.now k way }
     {
         let from = offers::number_at(self.table, way.neighbour);
-        let told = room::unpack_pair(self.word(Part::Held, k));
+        let told = self.held(k);
         offers::offer_of(told.extended(way.kind, way.cost), from)
     }
 
@@ -54,7 +62,7 @@ impl<'a> Machine<'a> {
     {
         let way = self.way(k);
         let from = offers::number_at(self.table, way.neighbour);
-        let told = room::unpack_pair(self.word(Part::Held, k));
+        let told = self.held(k);
         offers::consider(best, way, from, told)
     }
 
@@ -66,7 +74,8 @@ impl<'a> Machine<'a> {
         let number = offers::number_at(self.table, u);
         let mut best = offers::offer_of(TypeLength::UNREACHABLE, number);
         let mut k = self.word(Part::Heads, u) as usize;
-        // Kept: (d) as in `send`, the walk goes on while the word is a direction.
+        // Kept (d): a walk as in `send`. An iterator for this one loop would be a struct of the room, the links and k, with the index as its
+        // ghost fact, and a `next` with this very test: more lines than the loop.
         while k < 2 * self.links {
             best = self.hear(k, best);
             k = self.word(Part::Nexts, k) as usize;
@@ -84,7 +93,7 @@ impl<'a> Machine<'a> {
     {
         let pair = best.pair;
         offers::put_line(self.table, u, pair, best.next);
-        if !old.same(pair) {
+        if old != pair {
             self.send(u, room::pack_pair(pair));
         }
     }
