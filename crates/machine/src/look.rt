@@ -63,15 +63,8 @@ impl<'a> Order<'a> {
         requires { fault_of_memory self.net.words.now self.choices.now (length table.old) (length room.old) ≡ Ok tt }
         ensures { Driven self.entry.net.words.now (count_of self.entry.net.words.now) self.entry.destination self.entry.choices.now self.entry.further table.old result table.new room.new }
     {
+        start::lay_out(self, table, room);
         let links = self.net.links();
-        start::lay_out(
-            self.net.words,
-            links,
-            self.ases,
-            self.destination,
-            table,
-            room,
-        );
         let mut machine = Machine {
             words: self.net.words,
             links,

@@ -1,6 +1,6 @@
 -- The limits and the check of the links are the first tests of the verdict; then the ASes stand in the list, so that the search says whether
 -- the destination is one of them, and where. The rest is what the order answers.
-use Rattle.std.proofs.Common.{◌≡◌, Err, refl, rules, arith, [], length}
+use Rattle.std.proofs.Common.{◌≡◌, Err, refl, rules, arith, []}
 use Rattle.machine.specs.Answers.{Looking}
 use Rattle.machine.proofs.AnswerLaws.{many_choices, many_deliveries, bad_links, good_links, may_look, may_search, no_destination, located, at_destination}
 use Rattle.machine.proofs.run.Goals as goal

@@ -5,7 +5,7 @@ use Rattle.machine.proofs.AnswerLaws.{may_drive, driven}
 use Rattle.machine.proofs.look.Order.drive.Goals as goal
 
 pub lay_out-requires : goal.lay_out-requires
-lay_out-requires c = rw (← c.links-links.ensures) at (may_drive c.args.self.located c.requires).starting
+lay_out-requires c = (may_drive c.args.self.located c.requires).starting
 
 pub take_choices-chosen-requires-clause-directions : goal.take_choices-chosen-requires-clause-directions
 take_choices-chosen-requires-clause-directions c =
@@ -17,7 +17,8 @@ returns c =
     let s = c.send.ensures.stays in
     let a = c.take_choices-chosen.ensures.stays in
     let g = c.go_on-made.ensures.stays in
-    let origin = LaidOut-started c.lay_out.ensures (place_inside may.starting) c.send.ensures.sent c.pack_pair.ensures in
+    let fresh = rw (← c.links-links.ensures) at c.lay_out.ensures in
+    let origin = LaidOut-started fresh (place_inside may.starting) c.send.ensures.sent c.pack_pair.ensures in
     let start = rw (← c.send.ensures.table) at origin in
     let chose = rw (s.words, s.links, s.destination) at c.take_choices-chosen.ensures.chooses in
     let went = rw (a.words, a.links, a.destination, s.words, s.links, s.destination) at c.go_on-made.ensures.goes_on in

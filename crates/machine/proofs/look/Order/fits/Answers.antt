@@ -1,5 +1,5 @@
 -- `machine::look::Order::fits` meets its contract: one test after the other.
-use Rattle.std.proofs.Common.{arith, refl, sym, ◌∙◌, le-leb}
+use Rattle.std.proofs.Common.{arith, refl, ◌∙◌, le-leb}
 use borrow.Author.Tests.{lt-leb}
 use Rattle.machine.proofs.AnswerLaws.{few_parts, memory_tests}
 use Rattle.machine.proofs.look.Order.fits.Goals as goal
