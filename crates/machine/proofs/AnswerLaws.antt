@@ -153,6 +153,18 @@ module _ {ws ases : List ℕ} {place : ℕ} {cs : List ℕ} {n : ℕ} (g : Locat
         deliveries = g.looking.deliveries;
       }
 
+-- an accepted network, and so many choices and deliveries
+pub may_look : {ws cs : List ℕ} {n known : ℕ} → length cs ≤ 65536 → n ≤ 65536 → check_words base_limits ws ≡ Ok known → Looking ws cs n
+may_look {ws} {cs} {n} {known} few deliveries check =
+    let (whole, ok) = check_words-Accepted base_limits ws known check in
+    record {
+      words = omega (arith, count_links ws, whole);
+      few_links = ok.few_links;
+      few_ases = omega (arith, ok.count, ok.few_ases);
+      few_choices = few;
+      deliveries = deliveries;
+    }
+
 -- 7
 module _ {ws cs : List ℕ} {n : ℕ} (g : Looking ws cs n) {l u : List ℕ} {k : ℕ} (long : length l ≡ 512)
     (listed : Listed (ases_of (links_of ws)) l u k) where
@@ -212,17 +224,6 @@ module _ (ws : List ℕ) (d : ℕ) (cs : List ℕ) (n : ℕ) (t r : List ℕ) wh
           rw o
           (from_Outcome (fault_is ∙ ap (λ (x : Result ℕ Refusal). and_then (verdict_of x) (fault_of_network ws d cs (length t) (length r))) e)
           (refused ws d cs n t r refl))
-
-      pub may_look : {known : ℕ} → c ≡ Ok known → Looking ws cs n
-      may_look {known} e =
-          let (whole, ok) = check_words-Accepted base_limits ws known (sym check ∙ e) in
-          record {
-            words = omega (arith, count_links ws, whole);
-            few_links = ok.few_links;
-            few_ases = omega (arith, ok.count, ok.few_ases);
-            few_choices = few;
-            deliveries = deliveries;
-          }
 
       pub good_links : {known : ℕ} → c ≡ Ok known → {out : Result Ran Refusal} {t' r' : List ℕ}
           → NetworkAnswer ws d cs n t r out t' r' → Answered base_limits ws d cs n t r out t' r'
