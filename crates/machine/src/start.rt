@@ -8,12 +8,12 @@ use super::{index, room};
 use rules::TypeLength;
 
 // All held pairs are unreachable, and nothing waits.
-fn lay_pairs(room: &mut [u32], m: usize)
-    requires { 6 * m ≤ length room.old }
-    ensures { Blank m (2 * m) room.old room.new }
+fn lay_pairs(room: &mut [u32], links: usize)
+    requires { 6 * links ≤ length room.old }
+    ensures { Blank links (2 * links) room.old room.new }
 {
-    room[2 * m..4 * m].fill(room::pack_pair(TypeLength::UNREACHABLE));
-    room[4 * m..6 * m].fill(room::NOTHING);
+    room[2 * links..4 * links].fill(room::pack_pair(TypeLength::UNREACHABLE));
+    room[4 * links..6 * links].fill(room::NOTHING);
 }
 
 // The room of an order: places, blank directions, index.

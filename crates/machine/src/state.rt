@@ -24,8 +24,8 @@ pub struct Machine<'a> {
     ghost flagged: { Flagged links room.now flags },
 }
 
-// Kept (d): `k < 2 * links` and `u < ases_in words` as clauses of the methods, here and in steps.rt and runs.rt. A type for a direction or a
-// place would have to carry the links or words too, and each call to show that they are this machine's.
+// Kept (d): `k < 2 * links` and `place < ases_in words` as clauses of the methods, here and in steps.rt and runs.rt. A type for a direction
+// or a place would have to carry the links or words too, and each call to show that they are this machine's.
 impl<'a> Machine<'a> {
     ghost use Rattle.std.specs.Prelude.{◌+◌, ◌*◌, ◌/◌, ◌≤◌, ◌<◌, ◌≡◌, ◌≢◌, MatchBool, length, get_or};
     ghost use Rattle.machine.specs.Parts.{start_of};
@@ -87,14 +87,14 @@ impl<'a> Machine<'a> {
         room::put_word(self.room, self.links, Part::Waiting, k, word);
     }
 
-    // A word goes on every direction over which the AS at place u tells, and replaces one that waits: the partners of those that it hears.
-    pub fn send(&mut self, u: usize, word: u32)
-        requires { u < ases_in self.old.words.now }
+    // A word goes on every direction over which the AS at a place tells, and replaces one that waits: the partners of those that it hears.
+    pub fn send(&mut self, place: usize, word: u32)
+        requires { place < ases_in self.old.words.now }
         ensures stays { Stays self.old self.new }
         ensures table { self.new.table.now ≡ self.old.table.now }
-        ensures sent { Sent self.old.links u word (2 * self.old.links) self.old.room.now self.new.room.now }
+        ensures sent { Sent self.old.links place word (2 * self.old.links) self.old.room.now self.new.room.now }
     {
-        let mut k = self.word(Part::Heads, u) as usize;
+        let mut k = self.word(Part::Heads, place) as usize;
         // Kept (d): a walk along words of the room, which 2m ends. It stores into the room as it goes, so that no iterator may hold it.
         while k < 2 * self.links {
             self.put_waiting(partner(k), word);

@@ -16,14 +16,14 @@ impl<'a> Machine<'a> {
     ghost use Rattle.machine.specs.Steps.{held_over, Heard, held_offer};
     ghost use Rattle.machine.specs.States.{Stays, Moves, Takes, Amends, Delivers};
 
-    // The offer that the line of the AS at place u stands for.
-    fn standing(&self, u: usize) -> Offered
-        requires { u < ases_in self.now.words.now }
-        ensures { result ≡ entry_offer self.now.table.now u }
+    // The offer that the line of the AS at a place stands for.
+    fn standing(&self, place: usize) -> Offered
+        requires { place < ases_in self.now.words.now }
+        ensures { result ≡ entry_offer self.now.table.now place }
     {
         offers::offer_of(
-            offers::pair_at(self.table, u),
-            offers::next_at(self.table, u),
+            offers::pair_at(self.table, place),
+            offers::next_at(self.table, place),
         )
     }
 
@@ -66,14 +66,14 @@ impl<'a> Machine<'a> {
         offers::consider(best, way, from, told)
     }
 
-    // The best of what the AS at place u hears over all its directions.
-    fn elected(&self, u: usize) -> Offered
-        requires { u < ases_in self.now.words.now }
-        ensures { as_offer result ≡ best (held_over self.now.links self.now.room.now) (as_at self.now.words.now u) (net_of self.now.words.now) }
+    // The best of what the AS at a place hears over all its directions.
+    fn elected(&self, place: usize) -> Offered
+        requires { place < ases_in self.now.words.now }
+        ensures { as_offer result ≡ best (held_over self.now.links self.now.room.now) (as_at self.now.words.now place) (net_of self.now.words.now) }
     {
-        let number = offers::number_at(self.table, u);
+        let number = offers::number_at(self.table, place);
         let mut best = offers::offer_of(TypeLength::UNREACHABLE, number);
-        let mut k = self.word(Part::Heads, u) as usize;
+        let mut k = self.word(Part::Heads, place) as usize;
         // Kept (d): a walk as in `send`. An iterator for this one loop would be a struct of the room, the links and k, with the index as its
         // ghost fact, and a `next` with this very test: more lines than the loop.
         while k < 2 * self.links {
@@ -83,18 +83,18 @@ impl<'a> Machine<'a> {
         best
     }
 
-    // The AS at place u, whose pair was old, takes the line of an offer. If its type or length changed it sends the new pair to every
+    // The AS at a place, whose pair was old, takes the line of an offer. If its type or length changed it sends the new pair to every
     // neighbour; a changed next hop alone sends nothing.
-    fn take_line(&mut self, u: usize, old: TypeLength, best: Offered)
-        requires place { u < ases_in self.old.words.now }
+    fn take_line(&mut self, place: usize, old: TypeLength, best: Offered)
+        requires place { place < ases_in self.old.words.now }
         requires word { pair_word best.pair < 4294967296 }
         ensures stays { Stays self.old self.new }
-        ensures takes { Takes self.old u old best self.new }
+        ensures takes { Takes self.old place old best self.new }
     {
         let pair = best.pair;
-        offers::put_line(self.table, u, pair, best.next);
+        offers::put_line(self.table, place, pair, best.next);
         if old != pair {
-            self.send(u, room::pack_pair(pair));
+            self.send(place, room::pack_pair(pair));
         }
     }
 
