@@ -1,5 +1,5 @@
 -- The answers: what a refusal leaves, what a run that passes leaves, and the verdict test by test.
-use Prim.Native.Nat.{ℕ, zero, suc, ◌+◌, ◌*◌, ◌/◌, ◌≤◌, ◌<◌}
+use Prim.Native.Nat.{ℕ, zero, suc, ◌+◌, ◌*◌, ◌≤◌, ◌<◌}
 use mathlib.Core.Path.{◌≡◌, refl, sym, ◌∙◌, ap, subst}
 use mathlib.Core.Bool.{Bool, true, false, cond, not}
 use mathlib.Core.List.{List, [], ◌∷◌, ◌++◌}
@@ -7,14 +7,14 @@ use native.Mathlib.Omega.{arith}
 use lib.Dec.{ltb, leb}
 use lib.ListN.{length, get_or, take, drop, replicate}
 use lib.Seq.{get_or-take, length-take-le}
-use borrow.Author.Tests.{lt-ltb, le-ltb, ltb-true, le-leb, lt-leb}
+use borrow.Author.Tests.{lt-ltb, le-ltb, ltb-true, leb-true, le-leb, lt-leb}
 use Rattle.rules.specs.Replies.{Verdict}
 use Rattle.std.specs.Prelude.{Err, Ok, Result}
 use Rattle.rules.specs.declared.Refusal.{Refusal}
 use Rattle.rules.specs.declared.Refusal.TheVariants.{OverLimit, NoDestination, OutputShort, RoomShort, NoDirection}
 use Rattle.rules.specs.Network.{links_of, ases_of}
 use Rattle.rules.specs.Checks.{base_limits, check_words, needed_room}
-use Rattle.rules.specs.Entry.{and_then, verdict_of}
+use Rattle.rules.specs.Entry.{and_then, fault_of_output, fault_of_room, verdict_of}
 use Rattle.rules.specs.Stable.{table_of}
 use Rattle.rules.specs.Machine.{Run, run_of, started, lowest, is_quiet}
 use Rattle.rules.specs.Ascending.{Ascending}
@@ -22,9 +22,9 @@ use Rattle.rules.proofs.ListLaws.{member_yes, member_no}
 use Rattle.rules.proofs.AcceptedLinks.{check_words-Accepted}
 use Rattle.rules.proofs.NetworkLaws.{ases_Ascending}
 use Rattle.rules.proofs.LineLaws.{table_length}
-use Rattle.rules.proofs.VerdictLaws.{not_passes}
+use Rattle.rules.proofs.VerdictLaws.{not_passes, both_pass, test_passes}
 use Rattle.std.specs.Prelude.{Option, Some, None, is_some, is_none}
-use Rattle.network.specs.Promises.{Listed, Stands}
+use Rattle.network.specs.Promises.{count_of, Listed, Stands}
 use Rattle.network.proofs.ListedLaws.{listed_front, listed_ascends, placed, unplaced}
 use Rattle.network.proofs.PrefixLaws.{count as count_links}
 use Rattle.machine.specs.declared.Ran.{Ran}
@@ -103,67 +103,67 @@ answered {ws} {m} {place} {cs} {n} {t} {out} d long z =
 -- Refusals, one after the other -----------------------------------------------------------------------------------------------------
 
 -- a refusal leaves all lent memory as it was
-refused : (ws : List ℕ) (d : ℕ) (cs : List ℕ) (n : ℕ) {v : Verdict} (t r : List ℕ) {why : Refusal} → v ≡ Err why
+pub refused : (ws : List ℕ) (d : ℕ) (cs : List ℕ) (n : ℕ) {v : Verdict} (t r : List ℕ) {why : Refusal} → v ≡ Err why
     → Outcome ws d cs n v t r (Err why) t r
 refused ws d cs n t r e = rw e (record { replies = refl; tabled = refl; zeroed = refl })
 
+pub all_pass : {ws : List ℕ} {d : ℕ} {cs : List ℕ} {n : ℕ} {v : Verdict} {t r : List ℕ} {out : Result Ran Refusal} {t' r' : List ℕ} → v ≡ Ok tt
+    → Outcome ws d cs n (Ok tt) t r out t' r' → Outcome ws d cs n v t r out t' r'
+all_pass e o = rw e o
+
 -- 8 and 13
-module _ {ws ases : List ℕ} {place : ℕ} {cs : List ℕ} {n : ℕ} (g : Located ws ases place cs n) (t r : List ℕ) where
+module _ {ws ases : List ℕ} {place : ℕ} {cs : List ℕ} {n : ℕ} (g : Located ws ases place cs n) where
   count : length ases ≡ ases_in ws
   count = ap length g.listed
 
-  pub no_table : length t < 4 * length ases → MemoryAnswer ws place cs n t r (Err OutputShort) t r
-  no_table h =
-      let short : length t < 4 * ases_in ws = omega (arith, count) in
-      refused ws (as_at ws place) cs n t r (rw (lt-leb (4 * ases_in ws) (length t) short))
+  links_are : length (links_of ws) ≡ count_of ws
+  links_are = omega (arith, g.looking.words)
 
-  module _ {m need : ℕ} (table : 4 * length ases ≤ length t) (links : m ≡ length ws / 3) (needs : need ≡ needed_room m (length ases)) where
-    links_are : length (links_of ws) ≡ m
-    links_are = omega (arith, g.looking.words)
+  pub few_parts : (count_of ws ≤ 1536) × (length ases ≤ 512)
+  few_parts = (omega (arith, links_are, g.looking.few_links), omega (arith, count, g.looking.few_ases))
 
-    need_is : need ≡ needed_room (length (links_of ws)) (ases_in ws)
-    need_is = needs ∙ rw (links_are, count)
+  -- the verdict, by the numbers that the code has
+  pub memory_tests : (table room : ℕ) {m need : ℕ} → m ≡ count_of ws → need ≡ needed_room m (length ases)
+      → and_then (fault_of_output (4 * length ases) table) (and_then (fault_of_room need room) (fault_of_choices (2 * m) cs)) ≡ fault_of_memory ws cs table room
+  memory_tests table room links needs = rw (needs, links, ← links_are, count) refl
 
-    enough : leb (4 * ases_in ws) (length t) ≡ true
-    enough = le-leb (4 * ases_in ws) (length t) (omega (arith, count))
+  pub may_drive : {t r : List ℕ} → fault_of_memory ws cs (length t) (length r) ≡ Ok tt → Driving ws (count_of ws) ases place cs n t r
+  may_drive {t} {r} e =
+      let entries = 4 * ases_in ws in
+      let need = needed_room (length (links_of ws)) (ases_in ws) in
+      let choices = fault_of_choices (2 * length (links_of ws)) cs in
+      let all = both_pass (fault_of_output entries (length t)) (and_then (fault_of_room need (length r)) choices) e in
+      let rest = both_pass (fault_of_room need (length r)) choices all.1 in
+      let long : entries ≤ length t = leb-true entries (length t) (test_passes (leb entries (length t)) (Ok tt) OutputShort all.0).0 in
+      let enough : need ≤ length r = leb-true need (length r) (test_passes (leb need (length r)) (Ok tt) RoomShort rest.0).0 in
+      record {
+        starting =
+            record {
+              links = links_are;
+              few_links = few_parts.0;
+              words = omega (arith, links_are, g.looking.words);
+              listed = g.listed;
+              few = omega (arith, few_parts.1);
+              destination = g.destination;
+              table = omega (arith, count, long);
+              room = omega (arith, count, links_are, enough);
+            };
+        directions = choices_good (2 * count_of ws) 0 cs (rw (← links_are) rest.1);
+        few_choices = g.looking.few_choices;
+        deliveries = g.looking.deliveries;
+      }
 
-    pub no_room : length r < need → MemoryAnswer ws place cs n t r (Err RoomShort) t r
-    no_room h =
-        let short : length r < needed_room (length (links_of ws)) (ases_in ws) = omega (arith, need_is) in
-        refused ws (as_at ws place) cs n t r (rw (enough, lt-leb (needed_room (length (links_of ws)) (ases_in ws)) (length r) short))
-
-    module _ (room : need ≤ length r) {v : Verdict} (choices : v ≡ fault_of_choices (2 * m) cs) where
-      memory_is : fault_of_memory ws cs (length t) (length r) ≡ v
-      memory_is =
-          let long : needed_room (length (links_of ws)) (ases_in ws) ≤ length r = omega (arith, need_is) in
-          rw (enough, le-leb (needed_room (length (links_of ws)) (ases_in ws)) (length r) long, links_are) (sym choices)
-
-      pub no_choice : {why : Refusal} → v ≡ Err why
-          → MemoryAnswer ws place cs n t r (Err why) t r
-      no_choice e = refused ws (as_at ws place) cs n t r (memory_is ∙ e)
-
-      pub all_pass : v ≡ Ok tt → {out : Result Ran Refusal} {t' r' : List ℕ} → RunAnswer ws place cs n t r out t' r'
-          → MemoryAnswer ws place cs n t r out t' r'
-      all_pass e o = rw (memory_is ∙ e) o
-
-      pub may_drive : v ≡ Ok tt → Driving ws m ases place cs n t r
-      may_drive e =
-          record {
-            starting =
-                record {
-                  links = links_are;
-                  few_links = omega (arith, links_are, g.looking.few_links);
-                  words = omega (arith, links_are, g.looking.words);
-                  listed = g.listed;
-                  few = omega (arith, count, g.looking.few_ases);
-                  destination = g.destination;
-                  table = table;
-                  room = omega arith;
-                };
-            directions = choices_good (2 * m) 0 cs (sym choices ∙ e);
-            few_choices = g.looking.few_choices;
-            deliveries = g.looking.deliveries;
-          }
+-- an accepted network, and so many choices and deliveries
+pub may_look : {ws cs : List ℕ} {n known : ℕ} → length cs ≤ 65536 → n ≤ 65536 → check_words base_limits ws ≡ Ok known → Looking ws cs n
+may_look {ws} {cs} {n} {known} few deliveries check =
+    let (whole, ok) = check_words-Accepted base_limits ws known check in
+    record {
+      words = omega (arith, count_links ws, whole);
+      few_links = ok.few_links;
+      few_ases = omega (arith, ok.count, ok.few_ases);
+      few_choices = few;
+      deliveries = deliveries;
+    }
 
 -- 7
 module _ {ws cs : List ℕ} {n : ℕ} (g : Looking ws cs n) {l u : List ℕ} {k : ℕ} (long : length l ≡ 512)
@@ -175,9 +175,11 @@ module _ {ws cs : List ℕ} {n : ℕ} (g : Looking ws cs n) {l u : List ℕ} {k 
   may_search = listed_ascends fits listed (ases_Ascending (links_of ws))
 
   module _ (d : ℕ) (p : Option ℕ) (stands : Stands u k d p) where
-    pub no_destination : p ≡ None → (t r : List ℕ)
-        → NetworkAnswer ws d cs n t r (Err NoDestination) t r
-    no_destination e t r = refused ws d cs n t r (rw (member_no d (ases_of (links_of ws)) (unplaced fits listed d (subst (Stands u k d) e stands))))
+    pub no_destination : p ≡ None → {why : Refusal} → (let v : Result ℕ Refusal = Err why in v ≡ Err NoDestination) → (t r : List ℕ)
+        → {out : Result Ran Refusal} → out ≡ Err why → NetworkAnswer ws d cs n t r out t r
+    no_destination e {why} v t r o =
+        let is : why ≡ NoDestination = cc in
+        rw (o, is) (refused ws d cs n t r (rw (member_no d (ases_of (links_of ws)) (unplaced fits listed d (subst (Stands u k d) e stands)))))
 
     module _ {i : ℕ} (e : p ≡ Some i) where
       here : Stands u k d (Some i)
@@ -222,17 +224,6 @@ module _ (ws : List ℕ) (d : ℕ) (cs : List ℕ) (n : ℕ) (t r : List ℕ) wh
           rw o
           (from_Outcome (fault_is ∙ ap (λ (x : Result ℕ Refusal). and_then (verdict_of x) (fault_of_network ws d cs (length t) (length r))) e)
           (refused ws d cs n t r refl))
-
-      pub may_look : {known : ℕ} → c ≡ Ok known → Looking ws cs n
-      may_look {known} e =
-          let (whole, ok) = check_words-Accepted base_limits ws known (sym check ∙ e) in
-          record {
-            words = omega (arith, count_links ws, whole);
-            few_links = ok.few_links;
-            few_ases = omega (arith, ok.count, ok.few_ases);
-            few_choices = few;
-            deliveries = deliveries;
-          }
 
       pub good_links : {known : ℕ} → c ≡ Ok known → {out : Result Ran Refusal} {t' r' : List ℕ}
           → NetworkAnswer ws d cs n t r out t' r' → Answered base_limits ws d cs n t r out t' r'

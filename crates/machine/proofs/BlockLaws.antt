@@ -1,6 +1,7 @@
 -- The flags: a block that is passed over has nothing that waits, and one that was searched in vain may lose its flag.
-use Prim.Native.Nat.{ℕ, ◌+◌, ◌*◌, ◌/◌, ◌≤◌, ◌<◌}
+use Prim.Native.Nat.{ℕ, ◌+◌, ◌*◌, ◌/◌, ◌≤◌, ◌<◌, min}
 use mathlib.Core.Path.{◌≡◌, sym, ◌∙◌}
+use mathlib.Core.Logic.{◌≢◌}
 use mathlib.Core.Bool.{Bool, false}
 use mathlib.Core.List.{List}
 use native.Mathlib.Omega.{arith}
@@ -8,7 +9,17 @@ use native.Mathlib.Decide.{ℕ_discrete, dec_lt}
 use lib.ListN.{get_or, set, length-set}
 use lib.Seq.{get_or-set_other}
 use Rattle.machine.specs.Room.{flag_at, waiting_word, Flagged}
-use Rattle.machine.specs.Steps.{NoneWaits, FirstWaits}
+use Rattle.std.specs.Prelude.{Option, Some, None, MatchOption}
+use Rattle.machine.specs.Steps.{NoneWaits, FirstWaits, FirstBetween}
+
+-- the search to the end of a block, or to that of the directions
+pub first_between : (m : ℕ) (r : List ℕ) (i e : ℕ) {s : ℕ} → s ≡ min e (2 * m) → (o : Option ℕ)
+    → MatchOption o ((k : ℕ) → i ≤ k → k < s → waiting_word m r k ≡ 0)
+    (λ k. (i ≤ k) × (k < s) × (waiting_word m r k ≢ 0) × ((j : ℕ) → i ≤ j → j < k → waiting_word m r j ≡ 0))
+    → FirstBetween m r i e o
+first_between m r i e end None h = record { none = λ j p q d. h j p (omega (arith, end)) }
+first_between m r i e end (Some k) h =
+    record { after = h.0; before = omega (arith, end, h.1); direction = omega (arith, end, h.1); none = λ j p q. h.3 j p q; some = h.2 }
 
 module _ {m : ℕ} {r : List ℕ} where
   pub waits_join : {a b e : ℕ} → NoneWaits m r a b → NoneWaits m r b e → NoneWaits m r a e

@@ -68,9 +68,6 @@ module _ {ws : List ℕ} {m : ℕ} {t r : List ℕ} {k : ℕ} (laid : Laid ws m 
   pub teller_fits : 4 * w.neighbour + 4 ≤ length t
   teller_fits = omega (arith, at.neighbour_in, laid.table)
 
-  pub told_fits : (p : TypeLength) (x : ℕ) → p ≡ pair_of x → p.length + w.cost < 4294967296
-  told_fits p x e = omega (arith, ap (λ (v : Way). v.cost) is, ap (λ (q : TypeLength). q.length) e)
-
   pub hear_own : {o : Offered} (x : ℕ) (p : TypeLength) (o' : Offered) → x ≡ number_word t w.neighbour → p ≡ pair_of (held_word m r k)
       → Considered o w x p o' → Heard ws m r (hearer_word r k) k o o'
   unfolding arc
@@ -155,9 +152,6 @@ module _ {ws : List ℕ} {m : ℕ} {t r : List ℕ} (l : Laid ws m t r) (u : ℕ
     module _ {x : Offer} {k : ℕ} {o : Offered} (b : ElectTo ws m r u x k o) (h : k < 2 * m) {j : ℕ} (e : j ≡ next_word m r k) where
       next : HeardFrom m r u (k + 1) j
       next = rw e (subst (λ (v : ℕ). HeardFrom m r v (k + 1) (next_word m r k)) (b.own h) (l.index.nexts k (omega arith) h))
-
-      pub elect_after : k < j
-      elect_after = omega (arith, next.after)
 
       pub elect_more : {o' : Offered} → Heard ws m r (hearer_word r k) k o o' → ElectTo ws m r u x j o'
       elect_more {o'} heard =

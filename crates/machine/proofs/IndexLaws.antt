@@ -1,6 +1,6 @@
 -- The index: partners, an index that stays under stores elsewhere, and its making, a direction in front of the others each time.
 use Prim.Native.Nat.{ℕ, ◌+◌, ◌-◌, ◌*◌, ◌%◌, ◌≤◌, ◌<◌}
-use mathlib.Core.Path.{◌≡◌, refl, sym, ◌∙◌, ap, subst}
+use mathlib.Core.Path.{◌≡◌, sym, ◌∙◌, ap, subst}
 use mathlib.Core.Logic.{◌≢◌}
 use mathlib.Core.List.{List}
 use native.Mathlib.Omega.{arith}
@@ -72,30 +72,6 @@ module _ {m n : ℕ} {r q : List ℕ} (start : Indexing m n r) (g : NoHeads m n 
         few = start.few;
         room = omega (arith, start.room, g.long);
         hearers = λ k h. rw (hearer_same m r q (λ i l. g.below i (omega arith)) k h) (start.hearers k h);
-      }
-
-  pub index_none : IndexLaid m n (2 * m) q q
-  index_none =
-      record {
-        long = refl;
-        below = λ i h. refl;
-        indexed =
-            record {
-              room = omega (arith, start.room, g.long);
-              heads = λ u h. rw (g.heads u h) (nothing u);
-              nexts = λ i p l. absurd (omega arith);
-            };
-      }
-    where
-      nothing : (u : ℕ) → HeardFrom m q u (2 * m) (2 * m)
-      nothing u = record { after = omega arith; bound = omega arith; passed = λ i p l. absurd (omega arith); own = λ p. absurd (omega arith) }
-
-  pub index_all : {k : ℕ} {v : List ℕ} → IndexLaid m n k q v → IndexLaid m n k r v
-  index_all x =
-      record {
-        long = x.long ∙ g.long;
-        below = λ i h. x.below i h ∙ g.below i (omega arith);
-        indexed = x.indexed;
       }
 
 -- One direction more --------------------------------------------------------------------------------------------------------

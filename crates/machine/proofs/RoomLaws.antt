@@ -82,9 +82,6 @@ module _ {ws : List ℕ} {m u : ℕ} {t r : List ℕ} (g : Laid ws m t r) (place
     next_is =
         then ∙ ap (λ (x : List ℕ). next_word m x k) room_is ∙ next_stays s.sent inside (s.own inside) g.room next
 
-    pub send_after : k < j
-    send_after = omega (arith, next.after, next_is)
-
     pub send_more : SentTo m u w r j q'
     send_more =
         record {

@@ -3,7 +3,7 @@
 use Prim.Native.Nat.{ℕ, ◌+◌, ◌*◌, ◌≤◌, ◌<◌}
 use mathlib.Core.Path.{◌≡◌, refl, sym, ◌∙◌, ap, subst}
 use mathlib.Core.Logic.{◌≢◌}
-use mathlib.Core.Bool.{Bool, true, false, cond}
+use mathlib.Core.Bool.{Bool, true, false, cond, not, ◌&&◌}
 use mathlib.Core.List.{List, ◌++◌}
 use native.Mathlib.Omega.{arith}
 use native.Mathlib.Decide.{ℕ_discrete}
@@ -37,6 +37,15 @@ use Rattle.machine.specs.Room.{pair_word, pair_of, wait_of, place_word, held_wor
 use Rattle.machine.specs.Steps.{Sent, held_over, ToldUnless, Took}
 use Rattle.machine.proofs.IndexLaws.{partner_in, Indexed-same}
 use Rattle.machine.proofs.HeldLaws.{as_place, Laid-way, Laid-direction, Laid-arc}
+
+-- the test of two pairs, as `!=` makes it
+pub pairs_same : (p q : TypeLength) {b : Bool} → b ≡ not (eqb p.typ q.typ && eqb p.length q.length) → same_as p q ≡ not b
+unfolding same_as
+pairs_same p q e = rw e (twice (eqb p.typ q.typ && eqb p.length q.length))
+  where
+    twice : (t : Bool) → t ≡ not (not t)
+    twice true = refl
+    twice false = refl
 
 -- Pairs as words ----------------------------------------------------------------------------------------------------------
 

@@ -5,31 +5,32 @@ ghost use Rattle.machine.specs.Index.{Indexing, NoHeads, HasHead, with_direction
 use super::room::{self, Part};
 
 // The first n ASes hear over no direction yet.
-fn lay_heads(room: &mut [u32], m: usize, n: usize)
-    requires { (8 * m + n ≤ length room.old) × (m ≤ 1536) }
-    ensures { NoHeads m n room.old room.new }
+// Kept (a): 2m for none, since the links of a list are words of the lent room; what walks along them goes on while the word is a direction.
+fn lay_heads(room: &mut [u32], links: usize, n: usize)
+    requires { (8 * links + n ≤ length room.old) × (links ≤ 1536) }
+    ensures { NoHeads links n room.old room.new }
 {
-    room[8 * m..8 * m + n].fill(2 * m as u32);
+    room[8 * links..8 * links + n].fill(2 * links as u32);
 }
 
 // Direction k comes in front of those that its hearer hears over.
-fn index_direction(room: &mut [u32], m: usize, k: usize)
-    requires { HasHead m k room.old }
-    ensures { room.new ≡ with_direction m room.old k }
+fn index_direction(room: &mut [u32], links: usize, k: usize)
+    requires { HasHead links k room.old }
+    ensures { room.new ≡ with_direction links room.old k }
 {
-    let u = room::hearer_at(room, k);
-    let head = room::word_at(room, m, Part::Heads, u);
-    room::put_word(room, m, Part::Nexts, k, head);
-    room::put_word(room, m, Part::Heads, u, k as u32);
+    let place = room::hearer_at(room, k);
+    let head = room::word_at(room, links, Part::Heads, place);
+    room::put_word(room, links, Part::Nexts, k, head);
+    room::put_word(room, links, Part::Heads, place, k as u32);
 }
 
 // The whole index, from the last direction to the first.
-pub fn lay_index(room: &mut [u32], m: usize, n: usize)
-    requires { Indexing m n room.old }
-    ensures { IndexLaid m n 0 room.old room.new }
+pub fn lay_index(room: &mut [u32], links: usize, n: usize)
+    requires { Indexing links n room.old }
+    ensures { IndexLaid links n 0 room.old room.new }
 {
-    lay_heads(room, m, n);
-    for k in (0..2 * m).rev() {
-        index_direction(room, m, k);
+    lay_heads(room, links, n);
+    for k in (0..2 * links).rev() {
+        index_direction(room, links, k);
     }
 }

@@ -4,8 +4,9 @@
 ghost use Rattle.rules.specs.Checks.{base_limits};
 ghost use Rattle.machine.specs.Answers.{Answered};
 
+use look::Order;
 use network::Network;
-use rules::Refusal;
+use rules::{Limits, Refusal};
 
 mod index;
 mod look;
@@ -16,6 +17,7 @@ mod state;
 mod steps;
 
 // What a run gives: deliveries made, idle choices, quiet or not.
+// Kept (a): the counts in the result, and the flag beside them, are a form that the customers named.
 #[derive(Clone, Copy, Debug, PartialEq, Eq)]
 pub struct Ran {
     pub made: usize,
@@ -24,6 +26,7 @@ pub struct Ran {
 }
 
 // Deliveries made and idle choices so far.
+// Kept (a): a public type beside `Ran`; a machine has no answer to `quiet` before its end.
 #[derive(Clone, Copy, Debug, PartialEq, Eq)]
 pub struct Counts {
     pub made: usize,
@@ -37,6 +40,7 @@ pub const MOST_DELIVERIES: u32 = 65536;
 
 // The choices are delivered in their order, then the lowest waiting direction until nothing waits or the further deliveries are used.
 // The table gets the lines of that moment, four words per AS, and the room is cleared.
+// Kept (a): the six parameters, since this entry is public; inside they are one `Order`.
 pub fn run(
     words: &[u32],
     destination: u32,
@@ -47,12 +51,19 @@ pub fn run(
 ) -> Result<Ran, Refusal>
     ensures { Answered base_limits words.now destination choices.now further table.old room.old result table.new room.new }
 {
-    if MOST_CHOICES < choices.len() {
-        return Err(Refusal::OverLimit);
-    }
-    if MOST_DELIVERIES < further {
+    if MOST_CHOICES < choices.len() || MOST_DELIVERIES < further {
         return Err(Refusal::OverLimit);
     }
     let net = Network::check(words)?;
-    look::look_at_network(net, destination, choices, further, table, room)
+    let mut list = [0u32; Limits::BASE.ases];
+    let n = network::list_ases(net.words, &mut list);
+    let place = network::place_of(&list, n, destination).ok_or(Refusal::NoDestination)?;
+    let order = Order {
+        net,
+        ases: &list[..n],
+        destination: place,
+        choices,
+        further,
+    };
+    order.answer(table, room)
 }

@@ -1,12 +1,11 @@
-// The refusals in their order, each before a lent word is written, and then the run.
+// What a run is asked: the refusals in their order, each before a lent word is written, and then the run.
 ghost use Rattle.std.specs.Prelude.{◌≡◌, ◌≤◌, ◌<◌, length, MatchOption};
 ghost use Rattle.std.specs.List.{AllWithin, HoldsAt};
-ghost use Rattle.network.specs.Promises.{count_of};
 ghost use Rattle.machine.specs.Entries.{fault_of_choices};
-ghost use Rattle.machine.specs.Answers.{NetworkAnswer, MemoryAnswer, Located, Driving, Driven};
+ghost use Rattle.machine.specs.Answers.{Located};
 
 use super::state::{BLOCKS, Machine};
-use super::{Ran, room, start};
+use super::{Counts, Ran, room, start};
 use network::Network;
 use offers::WORDS_PER_ENTRY;
 use rules::{Refusal, TypeLength};
@@ -28,82 +27,66 @@ fn choice_fault(choices: &[u32], directions: usize) -> Result<(), Refusal>
     }
 }
 
-// The run of an input that passes: the fresh start, the choices, the further deliveries.
-fn drive(
-    net: Network<'_>,
-    ases: &[u32],
-    destination: usize,
-    choices: &[u32],
-    further: u32,
-    table: &mut [u32],
-    room: &mut [u32],
-) -> Ran
-    requires { Driving net.words.now (count_of net.words.now) ases.now destination choices.now further table.old room.old }
-    ensures { Driven net.entry.words.now (count_of net.entry.words.now) destination choices.now further table.old result table.new room.new }
-{
-    let links = net.links();
-    start::lay_out(net.words, links, ases, destination, table, room);
-    let mut machine = Machine {
-        words: net.words,
-        links,
-        destination,
-        table,
-        room,
-        flags: [false; BLOCKS],
-    };
-    machine.send(destination, room::pack_pair(TypeLength::ORIGIN));
-    let chosen = machine.take_choices(choices);
-    let counts = machine.go_on(further, chosen);
-    let quiet = machine.first_waiting().is_none();
-    Ran {
-        made: counts.made,
-        idle: counts.idle,
-        quiet,
-    }
+// An order for a run: an accepted network, its ASes in ascending order, the destination's place among them, the choices, and so many
+// further deliveries.
+#[derive(Clone, Copy, Debug, PartialEq, Eq)]
+pub struct Order<'a> {
+    pub net: Network<'a>,
+    pub ases: &'a [u32],
+    pub destination: usize,
+    pub choices: &'a [u32],
+    pub further: u32,
+    ghost located: { Located net.words.now ases.now destination choices.now further },
 }
 
-// Refusals 8 and 13, with the ASes and the destination's place among them.
-fn look_at_memory(
-    net: Network<'_>,
-    ases: &[u32],
-    destination: usize,
-    choices: &[u32],
-    further: u32,
-    table: &mut [u32],
-    room: &mut [u32],
-) -> Result<Ran, Refusal>
-    requires { Located net.words.now ases.now destination choices.now further }
-    ensures { MemoryAnswer net.entry.words.now destination choices.now further table.old room.old result table.new room.new }
-{
-    if table.len() < WORDS_PER_ENTRY * ases.len() {
-        return Err(Refusal::OutputShort);
-    }
-    let links = net.links();
-    if room.len() < network::room_need(links, ases.len()) {
-        return Err(Refusal::RoomShort);
-    }
-    choice_fault(choices, 2 * links)?;
-    let ran = drive(net, ases, destination, choices, further, table, room);
-    room.fill(0);
-    Ok(ran)
-}
+impl<'a> Order<'a> {
+    ghost use Rattle.std.specs.Prelude.{◌≡◌, length, Ok};
+    ghost use Rattle.network.specs.Promises.{count_of};
+    ghost use Rattle.machine.specs.Answers.{fault_of_memory, MemoryAnswer, Driven};
 
-// Refusals 7, 8 and 13 of an accepted list of links. The list of ASes holds 512.
-pub fn look_at_network(
-    net: Network<'_>,
-    destination: u32,
-    choices: &[u32],
-    further: u32,
-    table: &mut [u32],
-    room: &mut [u32],
-) -> Result<Ran, Refusal>
-    requires { (length choices.now ≤ 65536) × (further ≤ 65536) }
-    ensures { NetworkAnswer net.entry.words.now destination choices.now further table.old room.old result table.new room.new }
-{
-    let mut list = [0u32; 512];
-    let n = network::list_ases(net.words, &mut list);
-    let Some(place) = network::place_of(&list, n, destination) else {
-        return Err(Refusal::NoDestination);
-    };
-    look_at_memory(net, &list[..n], place, choices, further, table, room)
+    // Refusals 8 and 13, of so many words of table and room.
+    fn fits(self, table: usize, room: usize) -> Result<(), Refusal>
+        ensures { result ≡ fault_of_memory self.entry.net.words.now self.entry.choices.now table room }
+    {
+        if table < WORDS_PER_ENTRY * self.ases.len() {
+            return Err(Refusal::OutputShort);
+        }
+        let links = self.net.links();
+        if room < network::room_need(links, self.ases.len()) {
+            return Err(Refusal::RoomShort);
+        }
+        choice_fault(self.choices, 2 * links)
+    }
+
+    // The run of an order that fits: the fresh start, the choices, the further deliveries.
+    fn drive(self, table: &mut [u32], room: &mut [u32]) -> Ran
+        requires { fault_of_memory self.net.words.now self.choices.now (length table.old) (length room.old) ≡ Ok tt }
+        ensures { Driven self.entry.net.words.now (count_of self.entry.net.words.now) self.entry.destination self.entry.choices.now self.entry.further table.old result table.new room.new }
+    {
+        start::lay_out(self, table, room);
+        let links = self.net.links();
+        let mut machine = Machine {
+            words: self.net.words,
+            links,
+            destination: self.destination,
+            table,
+            room,
+            flags: [false; BLOCKS],
+        };
+        machine.send(self.destination, room::pack_pair(TypeLength::ORIGIN));
+        let chosen = machine.take_choices(self.choices);
+        let Counts { made, idle } = machine.go_on(self.further, chosen);
+        let quiet = machine.first_waiting().is_none();
+        Ran { made, idle, quiet }
+    }
+
+    // The whole answer. The room is cleared.
+    pub fn answer(self, table: &mut [u32], room: &mut [u32]) -> Result<Ran, Refusal>
+        ensures { MemoryAnswer self.entry.net.words.now self.entry.destination self.entry.choices.now self.entry.further table.old room.old result table.new room.new }
+    {
+        self.fits(table.len(), room.len())?;
+        let ran = self.drive(table, room);
+        room.fill(0);
+        Ok(ran)
+    }
 }

@@ -16,20 +16,22 @@ pub enum Part {
     Heads = 8,
 }
 
-// Word k of a part of the room of m links.
-pub fn word_at(room: &[u32], m: usize, part: Part, k: usize) -> u32
-    requires { start_of part m + k < length room.now }
-    ensures { result ≡ get_or room.now (start_of part m + k) 0 }
+// Word k of a part of the room of so many links.
+// Kept (d): the room and its number of links, here and in index.rt and start.rt. `Machine` is the struct that has both, once the room is
+// laid; one for the laying would hold no fact of them, since each step there changes what the room has.
+pub fn word_at(room: &[u32], links: usize, part: Part, k: usize) -> u32
+    requires { start_of part links + k < length room.now }
+    ensures { result ≡ get_or room.now (start_of part links + k) 0 }
 {
-    room[part as usize * m + k]
+    room[part as usize * links + k]
 }
 
 // Word k of a part becomes another.
-pub fn put_word(room: &mut [u32], m: usize, part: Part, k: usize, word: u32)
-    requires { start_of part m + k < length room.old }
-    ensures { room.new ≡ set room.old (start_of part m + k) word }
+pub fn put_word(room: &mut [u32], links: usize, part: Part, k: usize, word: u32)
+    requires { start_of part links + k < length room.old }
+    ensures { room.new ≡ set room.old (start_of part links + k) word }
 {
-    room[part as usize * m + k] = word;
+    room[part as usize * links + k] = word;
 }
 
 // Where who hears over direction k stands.
@@ -44,9 +46,10 @@ pub fn hearer_at(room: &[u32], k: usize) -> usize
 const UNIT: u32 = 268435456;
 
 // Nothing waits.
+// Kept (a): the lent room is words, a form that the customers named, so that nothing waits is a word too; `Machine::waits` alone reads it.
 pub const NOTHING: u32 = 0;
 
-// Kept: (d) no `From`: the pair is another crate's type, and only one whose word fits has a word.
+// Kept (d): no `From`: the pair is another crate's type, and only one whose word fits has a word.
 pub fn pack_pair(pair: TypeLength) -> u32
     requires { pair_word pair < 4294967296 }
     ensures { result ≡ pair_word pair }

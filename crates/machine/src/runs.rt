@@ -1,6 +1,5 @@
 // A run: the choices one after the other, then the lowest waiting direction again and again.
 use super::Counts;
-use super::room::{self, Part};
 use super::state::Machine;
 
 impl<'a> Machine<'a> {
@@ -14,16 +13,17 @@ impl<'a> Machine<'a> {
         ensures stays { Stays self.old self.new }
         ensures chooses { Chooses self.old k counts self.new result }
     {
-        if self.word(Part::Waiting, k) == room::NOTHING {
-            return Counts {
+        if self.waits(k) {
+            self.deliver(k);
+            Counts {
+                made: counts.made + 1,
+                ..counts
+            }
+        } else {
+            Counts {
                 idle: counts.idle + 1,
                 ..counts
-            };
-        }
-        self.deliver(k);
-        Counts {
-            made: counts.made + 1,
-            ..counts
+            }
         }
     }
 

@@ -18,16 +18,18 @@ pub struct Machine<'a> {
     pub destination: usize,
     pub table: &'a mut [u32],
     pub room: &'a mut [u32],
-    pub flags: [bool; 64],
+    pub flags: [bool; BLOCKS],
     ghost inside: { destination < ases_in words.now },
     ghost laid: { Laid words.now links table.now room.now },
     ghost flagged: { Flagged links room.now flags },
 }
 
+// Kept (d): `k < 2 * links` and `place < ases_in words` as clauses of the methods, here and in steps.rt and runs.rt. A type for a direction
+// or a place would have to carry the links or words too, and each call to show that they are this machine's.
 impl<'a> Machine<'a> {
-    ghost use Rattle.std.specs.Prelude.{◌+◌, ◌*◌, ◌/◌, ◌≤◌, ◌<◌, ◌≡◌, length, get_or};
+    ghost use Rattle.std.specs.Prelude.{◌+◌, ◌*◌, ◌/◌, ◌≤◌, ◌<◌, ◌≡◌, ◌≢◌, MatchBool, length, get_or};
     ghost use Rattle.machine.specs.Parts.{start_of};
-    ghost use Rattle.machine.specs.Room.{ases_in};
+    ghost use Rattle.machine.specs.Room.{ases_in, waiting_word};
     ghost use Rattle.machine.specs.Steps.{FirstBetween, Sent};
     ghost use Rattle.machine.specs.States.{Stays, Puts};
 
@@ -39,18 +41,21 @@ impl<'a> Machine<'a> {
         room::word_at(self.room, self.links, part, k)
     }
 
+    // Whether something waits on direction k.
+    pub fn waits(&self, k: usize) -> bool
+        requires { k < 2 * self.now.links }
+        ensures { MatchBool result (waiting_word self.now.links self.now.room.now k ≢ 0) (waiting_word self.now.links self.now.room.now k ≡ 0) }
+    {
+        self.word(Part::Waiting, k) != room::NOTHING
+    }
+
     // The first direction of a block on which something waits.
     fn first_in(&self, block: usize) -> Option<usize>
         requires { block < 64 }
         ensures { FirstBetween self.now.links self.now.room.now (48 * block) (48 * block + 48) result }
     {
         let end = (DIRECTIONS_PER_BLOCK * block + DIRECTIONS_PER_BLOCK).min(2 * self.links);
-        for k in DIRECTIONS_PER_BLOCK * block..end {
-            if self.word(Part::Waiting, k) != room::NOTHING {
-                return Some(k);
-            }
-        }
-        None
+        (DIRECTIONS_PER_BLOCK * block..end).find(|k| self.waits(*k))
     }
 
     // The first direction on which something waits. A block that is found to have none loses its flag.
@@ -82,15 +87,15 @@ impl<'a> Machine<'a> {
         room::put_word(self.room, self.links, Part::Waiting, k, word);
     }
 
-    // A word goes on every direction over which the AS at place u tells, and replaces one that waits: the partners of those that it hears.
-    pub fn send(&mut self, u: usize, word: u32)
-        requires { u < ases_in self.old.words.now }
+    // A word goes on every direction over which the AS at a place tells, and replaces one that waits: the partners of those that it hears.
+    pub fn send(&mut self, place: usize, word: u32)
+        requires { place < ases_in self.old.words.now }
         ensures stays { Stays self.old self.new }
         ensures table { self.new.table.now ≡ self.old.table.now }
-        ensures sent { Sent self.old.links u word (2 * self.old.links) self.old.room.now self.new.room.now }
+        ensures sent { Sent self.old.links place word (2 * self.old.links) self.old.room.now self.new.room.now }
     {
-        let mut k = self.word(Part::Heads, u) as usize;
-        // Kept: (d) the room's words are numbers, and 2m ends a walk; an `Option` made for each step would say the same in more lines.
+        let mut k = self.word(Part::Heads, place) as usize;
+        // Kept (d): a walk along words of the room, which 2m ends. It stores into the room as it goes, so that no iterator may hold it.
         while k < 2 * self.links {
             self.put_waiting(partner(k), word);
             k = self.word(Part::Nexts, k) as usize;

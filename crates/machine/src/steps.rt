@@ -12,18 +12,18 @@ impl<'a> Machine<'a> {
     ghost use Rattle.offers.specs.Passes.{as_offer};
     ghost use Rattle.offers.specs.Steps.{Fair};
     ghost use Rattle.offers.specs.Ways.{way_of_direction};
-    ghost use Rattle.machine.specs.Room.{pair_word, hearer_word, net_of, ases_in, as_at};
+    ghost use Rattle.machine.specs.Room.{pair_word, pair_of, held_word, hearer_word, net_of, ases_in, as_at};
     ghost use Rattle.machine.specs.Steps.{held_over, Heard, held_offer};
     ghost use Rattle.machine.specs.States.{Stays, Moves, Takes, Amends, Delivers};
 
-    // The offer that the line of the AS at place u stands for.
-    fn standing(&self, u: usize) -> Offered
-        requires { u < ases_in self.now.words.now }
-        ensures { result ≡ entry_offer self.now.table.now u }
+    // The offer that the line of the AS at a place stands for.
+    fn standing(&self, place: usize) -> Offered
+        requires { place < ases_in self.now.words.now }
+        ensures { result ≡ entry_offer self.now.table.now place }
     {
         offers::offer_of(
-            offers::pair_at(self.table, u),
-            offers::next_at(self.table, u),
+            offers::pair_at(self.table, place),
+            offers::next_at(self.table, place),
         )
     }
 
@@ -35,6 +35,14 @@ impl<'a> Machine<'a> {
         offers::way_at(self.words, self.room, k)
     }
 
+    // The pair that is held on direction k.
+    fn held(&self, k: usize) -> TypeLength
+        requires { k < 2 * self.now.links }
+        ensures { result ≡ pair_of (held_word self.now.links self.now.room.now k) }
+    {
+        room::unpack_pair(self.word(Part::Held, k))
+    }
+
     // What is offered over direction k, which is a way, with the pair held there.
     fn offered(&self, k: usize, way: Way) -> Offered
         requires direction { k < 2 * self.now.links }
@@ -42,7 +50,7 @@ impl<'a> Machine<'a> {
         ensures { result ≡ held_offer self.now.links self.now.table.now self.now.room.now k way }
     {
         let from = offers::number_at(self.table, way.neighbour);
-        let told = room::unpack_pair(self.word(Part::Held, k));
+        let told = self.held(k);
         offers::offer_of(told.extended(way.kind, way.cost), from)
     }
 
@@ -54,19 +62,20 @@ impl<'a> Machine<'a> {
     {
         let way = self.way(k);
         let from = offers::number_at(self.table, way.neighbour);
-        let told = room::unpack_pair(self.word(Part::Held, k));
+        let told = self.held(k);
         offers::consider(best, way, from, told)
     }
 
-    // The best of what the AS at place u hears over all its directions.
-    fn elected(&self, u: usize) -> Offered
-        requires { u < ases_in self.now.words.now }
-        ensures { as_offer result ≡ best (held_over self.now.links self.now.room.now) (as_at self.now.words.now u) (net_of self.now.words.now) }
+    // The best of what the AS at a place hears over all its directions.
+    fn elected(&self, place: usize) -> Offered
+        requires { place < ases_in self.now.words.now }
+        ensures { as_offer result ≡ best (held_over self.now.links self.now.room.now) (as_at self.now.words.now place) (net_of self.now.words.now) }
     {
-        let number = offers::number_at(self.table, u);
+        let number = offers::number_at(self.table, place);
         let mut best = offers::offer_of(TypeLength::UNREACHABLE, number);
-        let mut k = self.word(Part::Heads, u) as usize;
-        // Kept: (d) as in `send`, the walk goes on while the word is a direction.
+        let mut k = self.word(Part::Heads, place) as usize;
+        // Kept (d): a walk as in `send`. An iterator for this one loop would be a struct of the room, the links and k, with the index as its
+        // ghost fact, and a `next` with this very test: more lines than the loop.
         while k < 2 * self.links {
             best = self.hear(k, best);
             k = self.word(Part::Nexts, k) as usize;
@@ -74,18 +83,18 @@ impl<'a> Machine<'a> {
         best
     }
 
-    // The AS at place u, whose pair was old, takes the line of an offer. If its type or length changed it sends the new pair to every
+    // The AS at a place, whose pair was old, takes the line of an offer. If its type or length changed it sends the new pair to every
     // neighbour; a changed next hop alone sends nothing.
-    fn take_line(&mut self, u: usize, old: TypeLength, best: Offered)
-        requires place { u < ases_in self.old.words.now }
+    fn take_line(&mut self, place: usize, old: TypeLength, best: Offered)
+        requires place { place < ases_in self.old.words.now }
         requires word { pair_word best.pair < 4294967296 }
         ensures stays { Stays self.old self.new }
-        ensures takes { Takes self.old u old best self.new }
+        ensures takes { Takes self.old place old best self.new }
     {
         let pair = best.pair;
-        offers::put_line(self.table, u, pair, best.next);
-        if !old.same(pair) {
-            self.send(u, room::pack_pair(pair));
+        offers::put_line(self.table, place, pair, best.next);
+        if old != pair {
+            self.send(place, room::pack_pair(pair));
         }
     }
 

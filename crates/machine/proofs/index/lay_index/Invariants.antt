@@ -3,4 +3,4 @@ use Rattle.machine.specs.Index.{IndexLaid}
 use Rattle.machine.proofs.index.lay_index.Given as goal
 
 abbrev pub invariant-loop-k : goal.invariant-loop-k
-invariant-loop-k l = IndexLaid l.m l.n l.k l.initial.room l.room
+invariant-loop-k l = IndexLaid l.links l.n l.k l.initial.room l.room

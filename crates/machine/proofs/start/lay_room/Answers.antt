@@ -3,7 +3,12 @@ use Rattle.machine.proofs.StartLaws.{may_lay_index, room_Ready}
 use Rattle.machine.proofs.start.lay_room.Goals as goal
 
 pub lay_index-requires : goal.lay_index-requires
-lay_index-requires c = may_lay_index c.requires c.place_ends.ensures c.lay_pairs.ensures
+lay_index-requires c =
+    let blank = rw c.links-links.ensures at c.lay_pairs.ensures in
+    rw c.links-links.ensures (may_lay_index c.requires c.place_ends.ensures blank)
 
 pub returns : goal.returns
-returns c = room_Ready c.requires c.place_ends.ensures c.lay_pairs.ensures c.lay_index.ensures
+returns c =
+    let blank = rw c.links-links.ensures at c.lay_pairs.ensures in
+    let laid = rw c.links-links.ensures at c.lay_index.ensures in
+    room_Ready c.requires c.place_ends.ensures blank laid

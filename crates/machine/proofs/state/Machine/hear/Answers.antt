@@ -1,7 +1,5 @@
 -- Direction k by its place words is arc k, and its hearer considers what is held (`hear_own`).
-use Rattle.std.proofs.Common.{◌∙◌, ap}
 use Rattle.machine.proofs.HeldLaws.{teller_fits, hear_own}
-use Rattle.machine.specs.Room.{pair_of}
 use Rattle.machine.proofs.state.Machine.hear.Goals as goal
 
 pub number_at-from-requires : goal.number_at-from-requires
@@ -9,5 +7,4 @@ number_at-from-requires c = teller_fits c.args.self.now.laid c.requires.directio
 
 pub returns : goal.returns
 returns c =
-    hear_own c.args.self.now.laid c.requires.direction _ c.way-way.ensures _ _ _ c.number_at-from.ensures
-    (c.unpack_pair-told.ensures ∙ ap pair_of c.word.ensures) c.consider.ensures
+    hear_own c.args.self.now.laid c.requires.direction _ c.way-way.ensures _ _ _ c.number_at-from.ensures c.held-told.ensures c.consider.ensures

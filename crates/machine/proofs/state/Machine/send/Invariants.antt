@@ -8,7 +8,7 @@ abbrev pub invariant-loop-k : goal.invariant-loop-k
 invariant-loop-k l = record {
   stays : Stays l.initial.self l.self;
   table : l.self.table.now ≡ l.initial.self.table.now;
-  sent : SentTo l.initial.self.links l.u l.word l.initial.self.room.now l.k l.self.room.now;
+  sent : SentTo l.initial.self.links l.place l.word l.initial.self.room.now l.k l.self.room.now;
 }
 
 abbrev pub decreases-loop-k : goal.decreases-loop-k
