@@ -46,7 +46,8 @@ pub fn meet_noted_peers(
     requires sizes { HasFlags survey.now chosen.now × HasFlags survey.now met.old }
     ensures { Hinted survey.now.network.words.now chosen.now met.old met.new }
 {
-    // Kept (d): a walk along a linked list, as in order.rt, whose next step is `scratch::noted_before`.
+    // Kept (d): the iterator over such an index is `Noted`, private in table: here it would be public in `offers`, `under` and `next` with
+    // contracts of their own, to spare this walk the line that steps on.
     let mut noted = scratch::at(index, HEADS + p);
     while 0 < noted {
         let i = ((noted - 1) / 2) as usize;

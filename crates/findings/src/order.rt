@@ -12,6 +12,7 @@ const CUSTOMERS: usize = scratch::LINKS;
 const INDEX: usize = CUSTOMERS + ASES;
 
 // Places of ASes that wait, the latest on top. Half words, as counts below: the stack is small.
+// Kept (a): an array with its height, not a `Vec`: there is no heap.
 #[derive(Drop)]
 struct Stack {
     places: [u16; ASES],
@@ -94,8 +95,8 @@ impl Guess {
 }
 
 /// The rank of each AS by its place, 1, 2, 3, .. in the order in which they go; who never goes keeps 0.
-// Kept (d): 0 for no rank, since ranks are compared as numbers (`may_fall`): an `[Option<u32>; ASES]` would be taken apart at each place, and
-// a room of words is zero to begin with. Lent and not handed back, so that it takes its place on the stack once.
+// Kept (d): 0 for no rank: `may_fall` compares ranks as numbers and `spare` tests for 0; of an `[Option<u32>; ASES]` each would take two
+// apart. Lent by `peel_ranked` and not handed back, so that they stand on the stack once.
 pub fn rank(survey: &Survey<'_>, ranks: &mut [u32; ASES]) {
     let mut guess = Guess {
         index: [0; INDEX],

@@ -31,9 +31,12 @@ pub struct Survey<'a> {
     ghost few_links: { length network.words.now ≤ 4608 },
 }
 
-// Kept (d): `HasFlags`, a flag for each AS, in each contract of this crate. A struct of survey and lists would carry that fact, but each of its
-// methods would have to say instead that the survey and who is served stay, and where both loans lead: four clauses in place of one.
+// Kept (d): `HasFlags`, a flag for each AS, in the contracts of seventeen functions. A struct of survey and lists would carry that fact,
+// but each of its methods would have to say instead that the survey and who is served stay, and where both loans lead: four clauses in
+// place of one.
 // Kept (a): a flag is a word, 1 or 0, since the lists of flags are words of the lent room (`find`, `find_accepted`).
+// Kept (d): `HasLink` of a link's number, and `p < ases` of a place, in four contracts each (here, marks.rt, ranks.rt, tops.rt): a type for
+// such a number would have to carry the network, and each call to show that it is this one.
 impl<'a> Survey<'a> {
     ghost use Rattle.std.specs.Prelude.{ℕ, ◌<◌, ◌≡◌, [], ◌∷◌};
     ghost use Rattle.network.specs.Promises.{HasLink};

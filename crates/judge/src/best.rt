@@ -11,7 +11,9 @@ use sheet::rows;
 use sheet::rows::{Row, WORDS_PER_LINE};
 
 /// The lines that a sheet prints, as table words: one for each AS of a network, in order.
-// Kept (d): `listed` is said here and by `judge_lines`, as in `sheet::writing`, where the reason stands.
+// Kept (d): network and ASes with the fact `listed`, as in sheet (`Draft`), table (`Question`) and machine (`Order`): a public type of
+// `network` for both would need a maker that lends the list and repeats the clause of `list_ases`, and each of these structs would still be
+// built once and read through one field more.
 #[derive(Clone, Copy, Debug, PartialEq, Eq)]
 pub struct Printed<'a> {
     pub network: Network<'a>,

@@ -1,7 +1,7 @@
 // Refusals 7, 11 and 12 of a sheet of right form.
 //
-// Kept (a): the form is a `requires` of two functions and no type: `sheet::reading::destination`, `line_count` and `read_lines` are public, take bytes and keep
-// their own clauses; a type `Sheet` over the bytes would be one more public name beside them.
+// Kept (d): `fault_of_form sheet ≡ Ok tt` in the contracts of `judge_lines` and `put_lines`: `destination`, `line_count` and `read_lines`
+// of sheet are public over bytes, so that a type for a sheet of right form would be made here once and opened again at each of these calls.
 ghost use Rattle.std.specs.Prelude.{◌*◌, ◌≤◌, min, ◌≡◌, length, drop, Ok};
 ghost use Rattle.rules.specs.Network.{links_of, ases_of};
 ghost use Rattle.rules.specs.Judge.{words_of, standing};

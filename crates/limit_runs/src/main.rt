@@ -39,6 +39,8 @@ const INPUTS: [&str; 6] = [
 ];
 
 // Number and place of a refusal.
+// Kept (d): `worked_examples` says it in other words; the text of a `print!` is no parameter, and the two programs share no crate that
+// prints.
 fn say_refused(rt: &impl Print, why: Refusal) -> io::Result<()> {
     print!(rt; " refused {} place {}", why.number(), why.place())
 }
@@ -94,6 +96,7 @@ fn say_text(rt: &impl Print, text: &[u8]) -> io::Result<()> {
 
 // The first bytes of a file: how many there are.
 // Kept (d): the program `route_sheet` reads standard input by the same call: two programs share no crate that may read.
+// Kept (d): an array and how much of it was read, not a `Vec`, as in `route_sheet`, where the reason stands.
 fn read_file(rt: &HostRuntime, path: &str, bytes: &mut [u8; INPUT_BYTES]) -> io::Result<usize>
     ensures { IfOk result (λ n. n ≤ 65537) }
 {

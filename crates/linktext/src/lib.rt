@@ -22,7 +22,8 @@ pub enum Reason {
 }
 
 // What a line gives.
-// Kept (a): an enum of its own, taken apart by `let .. else`: a form that the customers named.
+// Kept (a): an enum of its own: three outcomes, which `read_of_line`, under the theorems `read_write` and `write_read`, tells apart;
+// customers named it (docs/DECISIONS.md).
 #[derive(Clone, Copy, Debug, PartialEq, Eq)]
 pub enum LineRead {
     Skip,

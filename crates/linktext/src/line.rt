@@ -55,6 +55,8 @@ fn in_form(field: &[u8]) -> bool
 }
 
 // The value of a field of digits, which may be many; none if it is above 32 bits.
+// Kept (d): no `u32::from_str_radix`: it takes a `&str`, and a `+` and leading zeros too, so that `in_form` would stay and the bytes would
+// become a text first.
 fn value(field: &[u8]) -> Option<u32>
     requires { list_all is_decimal_digit field.now ≡ true }
     ensures { result ≡ within_32_bits (value_from 0 field.now) }
@@ -79,6 +81,7 @@ pub fn read_number(field: &[u8]) -> Result<u32, NumeralFault>
 }
 
 // Field 3 as a relation: `-1` is 1, `0` is 0.
+// Kept (a): a relation is a number, as `Link::relation` of the crate rules is (quick.rt too).
 fn read_relation(field: &[u8]) -> Option<u32>
     ensures { result ≡ relation_of field.now }
 {

@@ -38,6 +38,7 @@ impl Step {
 }
 
 // The number whose first `from` digits stand at `at` and are those of `begun`, which is no zero; of at most ten digits.
+// Kept (d): digits by hand, since where a number ends is found as it is read; a parse of std's would have to be told it first.
 fn digits_from(text: &[u8], at: usize, from: usize, begun: u64) -> Option<Step>
     requires { Begun text.now at from begun }
     ensures { IfSome result (λ s. Found text.now at 10 4294967295 decimal s.value s.next) }

@@ -1,8 +1,9 @@
 // Writing a link text: every refusal is looked at first, then the text's length, then it is written line by line.
 //
-// Kept (d): the writing functions take `bytes, at` and answer the next place, as the public `put_number` does and `Stored` says. A cursor struct, as `Page` in `report`,
-// would add the struct and two laws (that there is room, what is put) beside `Stored`, for three functions of two or three lines.
-// Kept (a): a relation is a `u32` of `rules::Link`, 0 for peers and 1 for provider and customer; others are refused, which the contracts say of every number.
+// Kept (d): `bytes, at`, and the next place as answer, as the public `put_number` and its clause `Stored` have it. A cursor struct, as
+// `Page` in `report`, would add itself and two laws (that there is room, what is put) beside `Stored`, for three private functions:
+// `put_field`, `put_end`, `put_line`.
+// Kept (a): a relation is a number, as in `rules::Link`: `write_text` answers for others too, by `fault_of_relations`.
 ghost use Rattle.std.specs.Prelude.{◌≡◌, ◌∷◌, [], ◌++◌, ◌+◌, ◌*◌, ◌<◌, ◌≤◌, length};
 ghost use Rattle.std.proofs.lemmas.List.Edits.{sets};
 ghost use Rattle.rules.specs.Network.{links_of};
@@ -74,6 +75,8 @@ fn text_length(words: &[u32]) -> usize
 }
 
 // Writes a number from byte `at` on, its last digit first, and answers the byte after it.
+// Kept (a): digits by hand, not `write!`: public with its clause, `Stored`, and it answers a place and no `Result`; so do those that write
+// with it.
 pub fn put_number(bytes: &mut [u8], at: usize, n: u32) -> usize
     requires { at + length (decimal n) ≤ length bytes.old }
     ensures { Stored bytes.old at (decimal n) bytes.new result }

@@ -5,7 +5,8 @@ ghost use Rattle.machine.specs.Index.{Indexing, NoHeads, HasHead, with_direction
 use super::room::{self, Part};
 
 // The first n ASes hear over no direction yet.
-// Kept (a): 2m for none, since the links of a list are words of the lent room; what walks along them goes on while the word is a direction.
+// Kept (a): 2m for none: heads and next directions are words of the room that the public `run` is lent as `&mut [u32]`; what walks along
+// them goes on while the word is a direction.
 fn lay_heads(room: &mut [u32], links: usize, n: usize)
     requires { (8 * links + n ≤ length room.old) × (links ≤ 1536) }
     ensures { NoHeads links n room.old room.new }

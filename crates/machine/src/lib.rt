@@ -17,7 +17,8 @@ mod state;
 mod steps;
 
 // What a run gives: deliveries made, idle choices, quiet or not.
-// Kept (a): the counts in the result, and the flag beside them, are a form that the customers named.
+// Kept (a): counts and flag in one result, as `run_reply` and the theorem `quiet_stable_table` say it, and as customers named it
+// (docs/DECISIONS.md).
 #[derive(Clone, Copy, Debug, PartialEq, Eq)]
 pub struct Ran {
     pub made: usize,
@@ -26,7 +27,8 @@ pub struct Ran {
 }
 
 // Deliveries made and idle choices so far.
-// Kept (a): a public type beside `Ran`; a machine has no answer to `quiet` before its end.
+// Kept (d): `Ran` without `quiet`: while choices are taken nobody knows it, so that one type for both would be made with a `quiet` that
+// says nothing (`take_choices`, `go_on`).
 #[derive(Clone, Copy, Debug, PartialEq, Eq)]
 pub struct Counts {
     pub made: usize,
@@ -40,7 +42,8 @@ pub const MOST_DELIVERIES: u32 = 65536;
 
 // The choices are delivered in their order, then the lowest waiting direction until nothing waits or the further deliveries are used.
 // The table gets the lines of that moment, four words per AS, and the room is cleared.
-// Kept (a): the six parameters, since this entry is public; inside they are one `Order`.
+// Kept (a): six parameters: `run` is public, with its clause `Answered`; inside, words, destination, choices and further deliveries are one
+// `Order`.
 pub fn run(
     words: &[u32],
     destination: u32,

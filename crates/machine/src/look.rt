@@ -29,6 +29,9 @@ fn choice_fault(choices: &[u32], directions: usize) -> Result<(), Refusal>
 
 // An order for a run: an accepted network, its ASes in ascending order, the destination's place among them, the choices, and so many
 // further deliveries.
+// Kept (d): network and ASes with the fact `listed`, as in sheet (`Draft`), judge (`Printed`) and table (`Question`): a public type of
+// `network` for both would need a maker that lends the list and repeats the clause of `list_ases`, and each of these structs would still be
+// built once and read through one field more.
 #[derive(Clone, Copy, Debug, PartialEq, Eq)]
 pub struct Order<'a> {
     pub net: Network<'a>,
@@ -39,6 +42,8 @@ pub struct Order<'a> {
     ghost located: { Located net.words.now ases.now destination choices.now further },
 }
 
+// Kept (d): table and room go on side by side, here and in start.rt: a struct of the two would need a clause for each one's loan in every
+// function.
 impl<'a> Order<'a> {
     ghost use Rattle.std.specs.Prelude.{◌≡◌, length, Ok};
     ghost use Rattle.network.specs.Promises.{count_of};

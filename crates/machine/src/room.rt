@@ -46,7 +46,8 @@ pub fn hearer_at(room: &[u32], k: usize) -> usize
 const UNIT: u32 = 268435456;
 
 // Nothing waits.
-// Kept (a): the lent room is words, a form that the customers named, so that nothing waits is a word too; `Machine::waits` alone reads it.
+// Kept (a): the public `run` is lent its room as `&mut [u32]`, so that 'nothing waits' is a word too, 0, which no pair of type 1 to 4 is;
+// `Machine::waits` alone reads it.
 pub const NOTHING: u32 = 0;
 
 // Kept (d): no `From`: the pair is another crate's type, and only one whose word fits has a word.

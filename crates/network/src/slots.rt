@@ -69,6 +69,8 @@ fn find_pair(words: &[u32], pairs: &[u16], l: Link) -> Option<usize>
 }
 
 // Puts x in if it is not there. The new number of ASes.
+// Kept (d): one function for this and `note_pair` would take what a slot holds, the test and both answers as parameters, for three lines in
+// common.
 fn note_as(seats: &mut [u32], homes: usize, n: usize, x: u32) -> usize
     requires { (0 < x) × Open homes seats.old n 0 }
     ensures { Noted homes x seats.old n seats.new result }

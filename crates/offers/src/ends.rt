@@ -8,6 +8,7 @@ ghost use Rattle.offers.specs.Placing.{kind_of_direction, put_ends};
 use rules::Link;
 
 // The kind of direction k, which is the link's, seen from its hearer.
+// Kept (a): a number, as `kind_from_a` and `kind_from_b` of the crate rules, public, answer it.
 pub fn kind_over(link: Link, k: usize) -> u32
     ensures { result ≡ kind_of_direction link k }
 {
@@ -41,6 +42,7 @@ pub fn put_hints(ases: &[u32], hints: &mut [u32; 2048])
 }
 
 // The links of a network and its ASes, ascending, with hints where each AS stands.
+// Kept (a): words and ASes side by side, with the fact `listed`, since `place_ends`, public, is given them so.
 #[derive(Clone, Copy, Debug, PartialEq, Eq)]
 pub struct Roster<'a> {
     pub words: &'a [u32],

@@ -18,8 +18,8 @@ use network::WORDS_PER_LINK;
 use pass::Pass;
 use rules::TypeLength;
 
-// Kept (a): a count n beside a table or list (`lay_fresh_lines`, `place_ends`, `elect_links`), not a slice cut to it: public with their clauses,
-// which say that words behind the first 4n stay.
+// Kept (a): a count n beside a table or list, not a slice cut to it: `lay_fresh_lines`, `place_ends` and `elect_links` are public, and
+// their clauses speak of n (`take n list`, `Placing .. list n ..`, `Electing .. n`).
 
 mod ends;
 mod fresh;
@@ -46,8 +46,8 @@ pub struct Offered {
 
 impl Offered {
     // Smaller type wins, then smaller length, then smaller rank.
-    // Kept (b): one comparison without branches, in which length and rank count where the types are equal. With `==` on pairs, then `<`, a
-    // pass takes a seventh longer where each call meets another network.
+    // Kept (a): one comparison without branches, in which length and rank count where the types are equal. Speed is part of the product:
+    // with `==` on pairs, then `<`, a pass over networks that change from call to call took a seventh longer (14.7 for 12.8 microseconds).
     pub fn wins(self, other: Offered) -> bool
         ensures { result ≡ better (as_offer self) (as_offer other) }
     {

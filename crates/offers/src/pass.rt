@@ -11,6 +11,7 @@ use crate::{Offered, Way};
 use rules::TypeLength;
 
 // The offer that entry i stands for.
+// Kept (a): `4 * i + 4 ≤ length t` here, in `keep_better` and in fresh.rt, as in lib.rt: a table is words that callers lend.
 pub fn offer_at(t: &[u32], i: usize) -> Offered
     requires { 4 * i + 4 ≤ length t.now }
     ensures { result ≡ entry_offer t.now i }

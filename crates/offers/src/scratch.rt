@@ -41,6 +41,8 @@ pub fn indexed(words: &[u32]) -> usize
 // under the same head. Words behind them are heads: what was noted last.
 
 // One is noted under a head.
+// Kept (a): lists as words that name words, since memory is lent and there is no heap; what reads and notes them is public with its
+// clauses.
 pub fn note(index: &mut [u32], head: usize, number: usize)
     requires { number < 4294967295 }
     ensures { index.new ≡ set (set index.old number (get_or index.old head 0)) head (number + 1) }

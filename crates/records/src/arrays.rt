@@ -1,5 +1,5 @@
 // For callers that hold up to sixteen links by value: the first n of the array are lent on.
-// Kept (a): array and number stand side by side, since the functions are public and take links by value.
+// Kept (a): array and number side by side: `check_links(links, n)` and `load(links, n)` are public, each a row of docs/PROMISES.md.
 ghost use Rattle.std.specs.Prelude.{◌≡◌, take};
 ghost use Rattle.rules.specs.Network.{flat};
 ghost use Rattle.rules.specs.Checks.{base_limits, check_words};

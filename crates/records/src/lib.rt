@@ -22,7 +22,7 @@ pub mod loaded;
 pub const MOST_LINKS: usize = Limits::BASE.links;
 
 // The list as words, by value: how many links there are, and their words where they are few.
-// Kept (a): a count beside the words, since callers make and take apart this public type.
+// Kept (a): a count beside the words: `load` gives both, and callers of `loaded` hand both back (`Words`, public).
 #[derive(Clone, Copy, Debug, PartialEq, Eq)]
 pub struct Words {
     pub count: usize,
@@ -90,6 +90,7 @@ pub fn find(links: &[Link], room: &mut [u32]) -> Result<Found, Refusal>
 }
 
 // The stable table to the destination, four words per AS; or refusals 1, 2 to 6, 7, 8.
+// Kept (a): four parameters, here and in `write_sheet`, and so in `loaded`, since these functions are public.
 pub fn stable_table(
     links: &[Link],
     destination: u32,

@@ -45,7 +45,6 @@ fn answer_lines(
     ensures { Worked (links_behind base_limits input.now) (destination_in input.now) (fault_of_lines input.now) table.old room.old result table.new room.new }
 {
     let end = find(input, 0, LF);
-    // Kept (d): `.map_err(|_| Refusal::Unreadable(0))?` would take the fault only to throw it away.
     let Ok(destination) = read_number(&input[..end]) else {
         return Err(Refusal::Unreadable(0));
     };

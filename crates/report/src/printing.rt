@@ -12,6 +12,8 @@ use rules::Refusal;
 const SPACE: u8 = b' ';
 
 // Lent bytes, and from which place on the next is written.
+// Kept (d): no `Display`: `write!` answers a `Result`, where `Fits` shows that there is room; each step would have an error that cannot
+// come.
 #[derive(Drop)]
 struct Page<'a> {
     bytes: &'a mut [u8],
@@ -85,7 +87,8 @@ impl<'a> Page<'a> {
     }
 
     // Entry i of the table as a line: AS, type, length, next hop.
-    // Kept (d): the four words by number, since they are printed as they lie; `sheet::rows::row_at` would add a crate to the report's and four fields.
+    // Kept (d): the four words by number, since they are printed as they lie: by `offers::number_at`, `pair_at` and `next_at` a pair would
+    // be made of two of them and taken apart again.
     fn line(&mut self, table: &[u32], i: usize)
         requires { Fits self.old 44 × (4 * i + 4 ≤ length table.now) }
         ensures { Puts self.old (line_text (number_word table.now i) (entry_line table.now i)) self.new }

@@ -10,8 +10,10 @@ use std::io::{Read, Write};
 const INPUT_BYTES: usize = 65537;
 
 fn main(rt: HostRuntime) -> io::Result<()> {
+    // Kept (d): an array and how much of it was read, not a `Vec`, which brings an error of memory that nothing here needs.
     let mut input = [0u8; INPUT_BYTES];
-    // Kept (a): the customers know the program's room by this number.
+    // Kept (a): the room by its number, a form that customers named (docs/DECISIONS.md, 'Forms that customers named'); it is
+    // `report::ROOM_WORDS`.
     let mut room = [0u32; 16384];
     let mut out = [0u8; REPORT_BYTES];
     let read = io::copy(

@@ -79,6 +79,7 @@ pub struct Link {
 
 impl Link {
     // What b is to a.
+    // Kept (a): it differs from `kind_from_b` in one number; both are public, each with its clause.
     pub fn kind_from_a(self) -> u32
         ensures { result ≡ kind_from_a self }
     {
@@ -133,6 +134,8 @@ pub enum Refusal {
 
 impl Refusal {
     // The refusal's number, 1 to 13.
+    // Kept (a): numbers for refusals, and a place that is 0 where there is none: both functions are public with their clauses,
+    // `refusal_number` and `refusal_place`, and programs print what they answer.
     pub fn number(self) -> u32
         ensures { result ≡ refusal_number self }
     {

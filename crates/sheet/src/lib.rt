@@ -47,6 +47,7 @@ pub fn read_sheet(sheet: &[u8], table: &mut [u32]) -> Result<SheetRead, Refusal>
 
 /// Writes the sheet of a table for a network: the number of its bytes, or refusals 1, 2 to 6, 7, 11, 8. Bytes beyond the sheet stay as they
 /// were.
+// Kept (a): four parameters, since this function is public; inside they are a `Draft`, and bytes, which are lent.
 #[tactic(auto, using(std::proofs::lemmas::Grind::common_steps, crate::proofs::WriteLaws::entry_order))]
 pub fn write_sheet(
     words: &[u32],

@@ -24,7 +24,8 @@ impl Row {
     pub(crate) fn stands(self, u: u32, bound: u32) -> bool
         ensures { result ≡ stands bound u (entry_of self) }
     {
-        // Kept (a): the type is a number, 4 for unreachable: the contract, `stands`, answers for numbers that are no type.
+        // Kept (a): the type is a number, 4 for unreachable: the clause of the public `lines_fault` (`standing`) answers for numbers that
+        // are no type.
         let lost = self.typ == 4 && self.length > 0;
         self.number == u && (1..=4).contains(&self.typ) && !lost && self.length <= bound
     }

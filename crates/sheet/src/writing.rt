@@ -62,8 +62,9 @@ pub fn put_sheet(bytes: &mut [u8], destination: u32, table: &[u32])
 }
 
 /// A table to be written as the sheet to a destination, for a network and the list of its ASes.
-// Kept (d): `listed` is said here and in `judge`: a type of `network` for a network with its ASes would be public, with a contract, two edits and a row of
-// docs/PROMISES.md for each of its functions, to save this line.
+// Kept (d): network and ASes with the fact `listed`, as in judge (`Printed`), table (`Question`) and machine (`Order`): a public type of
+// `network` for both would need a maker that lends the list and repeats the clause of `list_ases`, and each of these structs would still be
+// built once and read through one field more.
 #[derive(Clone, Copy, Debug, PartialEq, Eq)]
 pub(crate) struct Draft<'a> {
     pub network: Network<'a>,

@@ -1,5 +1,6 @@
 // What the storefront's server calls: link texts, sheets and tables as bytes and words, replies packed into one number. With link records
 // instead of a text: `links`.
+// Kept (a): replies are numbers, refusals too, here and in links.rt, since C programs get them as they are.
 #![tactic(auto, unfolding(crate::specs::Page::sheet_reply, crate::specs::Page::final_sheet, crate::specs::Page::judge_reply, crate::specs::Page::findings_reply, crate::specs::Page::run_reply, crate::specs::Page::final_table, rules::specs::Checks::check_words, rules::specs::Judge::entries_of, sheet::specs::Form::sheet_of, rules::specs::Network::flat, crate::specs::Page::check_reply, machine::specs::Entries::final_table))]
 
 ghost use Rattle.std.specs.Prelude.{◌≡◌, length};

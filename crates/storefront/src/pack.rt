@@ -19,6 +19,7 @@ const IDLE: u64 = 1 << 20;
 const QUIET: u64 = 1 << 40;
 
 // The value, or the refusal.
+// Kept (a): a refusal as its number and place in one word, since that is what C programs get; no `From`, as both types are of other crates.
 pub fn reply(reply: Result<u64, Refusal>) -> u64
     requires { ForErr reply Placed }
     ensures { result ≡ packed_reply reply }

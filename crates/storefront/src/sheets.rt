@@ -20,7 +20,8 @@ pub fn make(words: &[u32], destination: u32, sheet: &mut [u8]) -> Result<u64, Re
 }
 
 // The same of an accepted network.
-// Kept (a): a function of its own, so that the check's memory is free when table and room are taken: the stack is fixed.
+// Kept (a): a function of its own, so that the check's memory is free when the room is taken: the stack is fixed, and `rust/tests/stack.rs`
+// holds `bostuvrel_sheet` below 128 KiB.
 fn make_for(network: Network<'_>, destination: u32, sheet: &mut [u8]) -> Result<u64, Refusal>
     ensures reply { result ≡ told_lines network.entry.words.now destination (length sheet.old) }
     ensures bytes { sheet.new ≡ final_lines network.entry.words.now destination sheet.old }

@@ -33,7 +33,8 @@ pub fn find(words: &[u32]) -> Result<Found, Refusal>
 }
 
 // The findings on an accepted network.
-// Kept (a): a function of its own, so that the check's memory is free when the room is taken: the stack is fixed.
+// Kept (a): a function of its own, so that the check's memory is free when the room is taken: the stack is fixed, and `rust/tests/stack.rs`
+// holds `bostuvrel_findings` below 128 KiB.
 fn find_in(network: Network<'_>) -> Result<Found, Refusal>
     ensures { result ≡ findings_reply base_limits network.entry.words.now room_words }
 {

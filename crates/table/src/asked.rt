@@ -10,8 +10,9 @@ use offers::WORDS_PER_ENTRY;
 use rules::Refusal;
 
 // A question: an accepted network, its ASes in ascending order, and the destination, which is one of them.
-// Kept (d): network and ASes side by side, with the fact `listed`: a type of the two would be a public one of the crate network, for this
-// struct and its `new` alone.
+// Kept (d): network and ASes with the fact `listed`, as in sheet (`Draft`), judge (`Printed`) and machine (`Order`): a public type of
+// `network` for both would need a maker that lends the list and repeats the clause of `list_ases`, and each of these structs would still be
+// built once and read through one field more.
 #[derive(Clone, Copy, Debug, PartialEq, Eq)]
 pub struct Question<'a> {
     network: Network<'a>,

@@ -13,6 +13,7 @@ pub struct Best<'a> {
     pub destination: u32,
 }
 
+// Kept (d): `4 * i + 4 ≤ length` of both tables in three contracts: `Best` cannot hold it of the other table, which `put_hops` changes.
 impl Best<'_> {
     // The pair that is due at entry i: origin at the destination, and else the best offer's.
     fn pair_due(self, table: &[u32], i: usize) -> TypeLength

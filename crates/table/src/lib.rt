@@ -19,6 +19,8 @@ mod quick;
 
 // The stable table of accepted links, or refusal 7 or 8. The lists of ASes and of best offers hold 512 ASes.
 // Kept (a): public, so that link words with a clause stand here, where the rest of the crate takes a `Network`.
+// Kept (a): four parameters, here and in `stable_table`, since both are public; inside they are a `Question`, and table and room, which are
+// lent.
 pub fn accepted_table(
     words: &[u32],
     destination: u32,

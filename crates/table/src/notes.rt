@@ -65,6 +65,7 @@ pub fn head_of(place: u32) -> usize {
 }
 
 // Link i, for a pass. The head is chosen first, so that no branch hangs on the relation.
+// Kept (d): network, places, index and pass are handed on as they come: a struct for them would serve this function and `note_links` alone.
 fn note_link(network: Network<'_>, places: &[u32], index: &mut [u32], pass: Pass, i: usize)
     requires { i < count_of network.words.now }
 {
@@ -117,7 +118,8 @@ pub fn place_of(places: &[u32], link: u32, end: End) -> u32 {
     scratch::at(places, 2 * (link as usize) + end as usize)
 }
 
-// Kept (d): a stack for each length, in one list of words; the one stack of findings (order.rt) is an array with its height.
+// Kept (d): no type with the `Stack` of findings (order.rt): that is one stack in an array, and these are as many as there are lengths,
+// linked through one list: an array for each would be 512 times 512 words.
 // ASes wait on a shelf, in a stack for each length. Words to ASES: the mark on top, by length. Words past the one there, which stays 0:
 // the mark below, by place.
 

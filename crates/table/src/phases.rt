@@ -18,6 +18,7 @@ fn offered(table: &[u32], way: Way) -> TypeLength
 
 // Whether an offered pair is of the phase's type, within the cap, and better than an AS's own. The tests are joined
 // without a branch.
+// Kept (d): phase and cap side by side, here and in `take_offer`: a struct for them would spare each of the two functions one parameter.
 #[tactic(auto, unfolding(rules::specs::Pairs::beats_of))]
 fn gains(pair: TypeLength, own: TypeLength, phase: u32, cap: u32) -> bool
     ensures { result ≡ gains phase cap pair own }

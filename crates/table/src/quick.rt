@@ -21,6 +21,7 @@ struct Guess<'a> {
     ghost guessing: { Guessing n table.now },
 }
 
+// Kept (d): `place < n` in three contracts: a type for a place would have to carry n, and each call to show that it is this guess's.
 impl<'a> Guess<'a> {
     ghost use Rattle.std.specs.Prelude.{◌<◌, ◌≡◌, IfSome};
     ghost use Rattle.offers.specs.Lines.{entry_pair, next_word};
@@ -164,7 +165,8 @@ impl<'a> Guess<'a> {
     }
 }
 
-// Kept (d): network, places, table and n are apart in what makes the `Guess`, which holds them from there on.
+// Kept (d): network, places, table and n side by side in `guess_pass` and `guess_pairs` alone: a `Guess` holds all but the network from
+// there on, and a struct of the four would be made once, to be taken apart in two lines.
 // All that is told over customer links, and then over peer links; or all that is told over provider links.
 fn guess_pass(network: Network<'_>, places: &[u32], table: &mut [u32], n: usize, pass: Pass)
     requires { Guessing n table.old }

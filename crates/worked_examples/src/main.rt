@@ -104,6 +104,7 @@ fn say_run(rt: &impl Print, word: &str, choices: &[u32], further: u32) -> io::Re
     println!(rt; "")
 }
 
+// Kept (a): a relation is a number, here and in `records_a`, as in `rules::Link`: the last example gives 2, which is none.
 fn link(a: u32, b: u32, relation: u32) -> Link {
     Link { a, b, relation }
 }
