@@ -17,6 +17,9 @@ pub const ONE: u8 = b'1';
 
 pub const BAR: u8 = b'|';
 
+// The largest number that a field may hold.
+pub const MOST: u64 = 4294967295;
+
 // Where a byte first stands, if it does.
 fn first_place(s: &[u8], byte: u8) -> Option<usize>
     ensures { result ≡ position (λ c. c == byte) s.now }
@@ -54,20 +57,21 @@ fn in_form(field: &[u8]) -> bool
     }
 }
 
-// The value of a field of digits, which may be many; none if it is above 32 bits.
+// The value of a field of digits, which may be many; none if it passes the largest number.
 // Kept (d): no `u32::from_str_radix`: it takes a `&str`, and a `+` and leading zeros too, so that `in_form` would stay and the bytes would
 // become a text first.
 fn value(field: &[u8]) -> Option<u32>
     requires { list_all is_decimal_digit field.now ≡ true }
     ensures { result ≡ within_32_bits (value_from 0 field.now) }
 {
-    let mut value: u32 = 0;
+    let mut value = 0;
     for digit in field {
-        value = value
-            .checked_mul(10)?
-            .checked_add(u32::from(*digit - ZERO))?;
+        value = 10 * value + u64::from(*digit - ZERO);
+        if MOST < value {
+            return None;
+        }
     }
-    Some(value)
+    Some(value as u32)
 }
 
 // A field as a number: its value, or why it has none.

@@ -1,11 +1,13 @@
 // The usual line, `digits|digits|-1` or `digits|digits|0` with its LF, read in one pass. Of any other line nothing is said here: `None`.
 //
+// `rest_from`, `number_from` and `field_from` are in line wherever they stand: at a call their results would go through memory.
+//
 // Kept (d): `text, at` stand side by side and not in a cursor struct: each step asks for another number of bytes behind `at`, so the struct would hold no fact.
 ghost use Rattle.std.specs.Prelude.{◌≡◌, true, ◌+◌, ◌≤◌, ◌<◌, length, IfSome};
 ghost use Rattle.linktext.specs.Texts.{decimal, relation_text};
 ghost use Rattle.linktext.specs.Usual.{Found, Begun, Four, FourDigits, Digits, spelled, field_text, end_text, Written};
 
-use crate::line::{BAR, MINUS, ONE, ZERO};
+use crate::line::{BAR, MINUS, MOST, ONE, ZERO};
 use rules::Link;
 
 pub const LF: u8 = b'\n';
@@ -28,12 +30,14 @@ pub struct UsualLine {
 }
 
 impl Step {
-    // None of a value above 32 bits.
+    // None of a value above the largest that a field may hold.
     fn new(value: u64, next: usize) -> Option<Step>
         ensures { IfSome result (λ s. (s.value ≡ value) × (s.next ≡ next)) }
     {
-        let value = u32::try_from(value).ok()?;
-        Some(Step { value, next })
+        (value <= MOST).then(|| Step {
+            value: value as u32,
+            next,
+        })
     }
 }
 
@@ -91,6 +95,7 @@ fn four_digits(text: &[u8], at: usize) -> Option<u64>
 }
 
 // The number whose first four digits are those of `begun`; the next four are read at once, if there are four.
+#[inline(always)]
 fn rest_from(text: &[u8], at: usize, begun: u64) -> Option<Step>
     requires { Begun text.now at 4 begun }
     ensures { IfSome result (λ s. Found text.now at 10 4294967295 decimal s.value s.next) }
@@ -102,6 +107,7 @@ fn rest_from(text: &[u8], at: usize, begun: u64) -> Option<Step>
 }
 
 // The number that begins at `at`, its first four digits read at once, if there are four. After a zero it ends.
+#[inline(always)]
 fn number_from(text: &[u8], at: usize) -> Option<Step>
     requires { at + 10 ≤ length text.now }
     ensures { IfSome result (λ s. Found text.now at 10 4294967295 decimal s.value s.next) }
@@ -123,6 +129,7 @@ fn number_from(text: &[u8], at: usize) -> Option<Step>
 }
 
 // A number and its bar.
+#[inline(always)]
 fn field_from(text: &[u8], at: usize) -> Option<Step>
     requires { at + 11 ≤ length text.now }
     ensures { IfSome result (λ s. Found text.now at 11 4294967295 field_text s.value s.next) }

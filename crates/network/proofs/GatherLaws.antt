@@ -1,5 +1,6 @@
 -- ASes gathered as they are met: a new one stands behind the others, and a known one adds nothing. From what `insert` does to the members.
-use Rattle.std.proofs.Common.{◌≡◌, ℕ, ◌+◌, ◌<◌, ◌≤◌, ◌≢◌, ◌⊎◌, List, [], ◌∷◌, ◌++◌, length, take, set, replicate, sym, refl, ap, ◌∙◌, subst, inl, inr, ⊎_elim, le_refl, add-one, arith, length-set, take-suc-set, eqb-true}
+use Rattle.std.proofs.Common.{◌≡◌, ℕ, Bool, true, false, leb, leb-true, ◌+◌, ◌<◌, ◌≤◌, ◌≢◌, ◌⊎◌, List, [], ◌∷◌, ◌++◌, length, take, set, replicate, sym, refl, ap, ◌∙◌, subst, inl, inr, ⊎_elim, le_refl, add-one, arith, length-set, take-suc-set, eqb-true}
+use Rattle.std.specs.Bool.{then_some}
 use Rattle.std.specs.Prelude.{Some, position, slice_range}
 use lib.Seq.{take-set-le}
 use Rattle.rules.specs.declared.Link.{Link}
@@ -86,6 +87,14 @@ module _ {s t : List ℕ} {n : ℕ} (g : Gathering s t n) (r x : ℕ) where
           };
     };
   }
+
+  -- as far as there is room for so many
+  pub met_room : (m : ℕ) → (m ≤ 512 → Grown (insert x) s t n (set s n x) (set t r x) (Some m)) → Grown (insert x) s t n (set s n x) (set t r x) (then_some (leb m 512) m)
+  met_room m f = go (leb m 512) refl
+    where
+      go : (b : Bool) → leb m 512 ≡ b → Grown (insert x) s t n (set s n x) (set t r x) (then_some b m)
+      go true e = f (leb-true m 512 e)
+      go false e = record { seen_long = length-set s n x; met_long = length-set t r x; held = tt }
 
 pub Gathering-on : {more : List ℕ → List ℕ} {s t u v : List ℕ} {n m : ℕ} → Gathering s t n → Grown more s t n u v (Some m) → Gathering u v m
 Gathering-on g f = record { seen_long = f.seen_long ∙ g.seen_long; met_long = f.met_long ∙ g.met_long; few = f.held.few }

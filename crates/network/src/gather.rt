@@ -22,13 +22,9 @@ fn meet(seen: &mut [u32; 513], met: &mut [u32; 2112], n: usize, x: u32) -> Optio
     let held = met[s];
     met[s] = x;
     seen[n] = x;
-    if held != 0 {
-        Some(n)
-    } else if n < ASES {
-        Some(n + 1)
-    } else {
-        None
-    }
+    // (the count first and the refusal after it, so that the branch is on the refusal and never goes)
+    let known = if held == 0 { n + 1 } else { n };
+    (known <= ASES).then_some(known)
 }
 
 // Gathers the ends of all links. How many words they are; none if they are too many.

@@ -44,11 +44,12 @@ fn pair_home(l: Link, homes: usize) -> usize
     spread((m % 4294967296 + 5 * (m / 4294967296)) * 663608941, homes)
 }
 
-// How many of these slots the search for x passes: up to its own, or to an empty one where it belongs.
+// How many of these slots the search for x passes: up to its own, or to an empty one where it belongs. (`|`, so that one branch ends it,
+// and none hangs on which of the two it was.)
 pub fn find_as(seats: &[u32], x: u32) -> Option<usize>
     ensures { result ≡ position (λ v. v == 0 || v == x) seats.now }
 {
-    seats.iter().position(|v| *v == 0 || *v == x)
+    seats.iter().position(|v| (*v == 0) | (*v == x))
 }
 
 // Whether two links join the same two ASes, either way round.

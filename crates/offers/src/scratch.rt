@@ -29,7 +29,7 @@ pub fn put(s: &mut [u32], i: usize, value: u32)
 }
 
 // The number of links, as far as an index has words for them.
-// Kept (a): nothing in these crates calls it; public with its clause.
+// Kept (a): public with its clause; `table` bounds its walk over the links by it.
 pub fn indexed(words: &[u32]) -> usize
     ensures { (result ≡ links_indexed words.now) × (result ≤ 1536) × (3 * result ≤ length words.now) }
 {

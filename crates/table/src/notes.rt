@@ -78,26 +78,26 @@ fn note_link(network: Network<'_>, places: &[u32], index: &mut [u32], pass: Pass
     scratch::note(index, head, i);
 }
 
-// All links, those with smaller places first.
+// All links, those with smaller places first, as far as the index has words for them, which is all of an accepted network.
 pub fn note_links(network: Network<'_>, places: &[u32], index: &mut [u32], pass: Pass) {
-    for i in 0..network.links() {
+    for i in 0..scratch::indexed(network.words) {
         note_link(network, places, index, pass, i);
     }
 }
 
-// The links under a head of the index, from the one that was noted last.
+// The links under a head of the index, from the one that was noted last. The next one is looked for only when it is asked for, where
+// the head, which stands behind all links, is one more mark.
 #[derive(Clone, Copy, Debug, PartialEq, Eq)]
 pub struct Noted<'a> {
     index: &'a [u32],
     mark: u32,
+    ghost some: { 0 < mark },
 }
 
 impl<'a> Noted<'a> {
     pub fn under(index: &'a [u32], head: usize) -> Noted<'a> {
-        Noted {
-            index,
-            mark: scratch::at(index, head),
-        }
+        let mark = u32::try_from(head.saturating_add(1)).unwrap_or(u32::MAX);
+        Noted { index, mark }
     }
 }
 
@@ -107,8 +107,9 @@ impl<'a> Iterator for Noted<'a> {
     ghost remaining = { λ s. at_most s.mark };
 
     fn next(&mut self) -> Option<u32> {
-        let link = self.mark.checked_sub(1)?;
-        self.mark = scratch::noted_before(self.index, self.mark);
+        let mark = scratch::noted_before(self.index, self.mark);
+        let link = mark.checked_sub(1)?;
+        self.mark = mark;
         Some(link)
     }
 }
