@@ -167,6 +167,29 @@ module _ {ws : List ℕ} {m d : ℕ} {t r : List ℕ} where
         after = λ rest run f. rw (chosen_more (net_of ws) (as_at ws d) cs i h run, ← e) (s.after rest _ (g.after rest run f));
       }
 
+  -- idle choices one after the other, which leave the words as they are
+  chose_idles : (cs : List ℕ) (i n : ℕ) {c : Counts} {u v : List ℕ} → Laid ws m u v → ChoseAll ws m d (take i cs) t r c u v → i + n ≤ length cs
+      → ((j : ℕ) → j < n → get_or cs (i + j) 0 < 2 * m) → ((j : ℕ) → j < n → waiting_word m v (get_or cs (i + j) 0) ≡ 0)
+      → ChoseAll ws m d (take (i + n) cs) t r (record { made = c.made; idle = c.idle + n }) u v
+  chose_idles cs i zero {c} laid g h inside none =
+      let e : i + 0 ≡ i = omega arith in
+      let f : c.idle + 0 ≡ c.idle = omega arith in
+      rw (e, f) g
+  chose_idles cs i (suc n) {c} laid g h inside none =
+      let before = chose_idles cs i n laid g (omega arith) (λ j l. inside j (omega arith)) (λ j l. none j (omega arith)) in
+      let one = Chose-more cs (i + n) before (omega arith) refl (Chose-idle laid (inside n (omega arith)) (none n (omega arith))) in
+      let e : i + suc n ≡ i + n + 1 = omega arith in
+      let f : c.idle + suc n ≡ c.idle + n + 1 = omega arith in
+      rw (e, f) one
+
+  pub Chose-idle_to : (cs : List ℕ) (i n : ℕ) {c : Counts} {u v : List ℕ} → Laid ws m u v → ChoseAll ws m d (take i cs) t r c u v → i ≤ n → n ≤ length cs
+      → ((j : ℕ) → j < length cs → get_or cs j 0 < 2 * m) → ((j : ℕ) → i ≤ j → j < n → waiting_word m v (get_or cs j 0) ≡ 0)
+      → ChoseAll ws m d (take n cs) t r (record { made = c.made; idle = c.idle + (n - i) }) u v
+  Chose-idle_to cs i n laid g from to inside none =
+      let e : i + (n - i) ≡ n = omega (arith, from) in
+      rw e at
+      (chose_idles cs i (n - i) laid g (omega (arith, from, to)) (λ j l. inside (i + j) (omega (arith, from, to))) (λ j l. none (i + j) (omega arith) (omega (arith, from))))
+
   -- One further delivery more -----------------------------------------------------------------------------------------------------
 
   pub went_none : (c : Counts) → WentOn ws m d 0 c t r c t r

@@ -4,7 +4,7 @@
 --   Puts a k w b       the word w waits on direction k in b
 --   Moves a k b        what waits on direction k in a is held there in b, where nothing waits
 --   Takes, Amends, Delivers   the steps of a delivery
---   Chooses, ChoosesAll, GoesOn           the parts of a run
+--   ChoosesAll, GoesOn parts of a run
 use Rattle.std.specs.Prelude.{ℕ, ◌+◌, ◌*◌, ◌/◌, ◌≡◌, true, List, set}
 use Rattle.rules.specs.declared.TypeLength.{TypeLength}
 use Rattle.offers.specs.declared.Offered.{Offered}
@@ -12,7 +12,7 @@ use Rattle.machine.specs.declared.Counts.{Counts}
 use Rattle.machine.specs.declared.state.Machine.{Machine}
 use Rattle.machine.specs.Room.{waiting_word}
 use Rattle.machine.specs.Steps.{Took, Amended, Delivered}
-use Rattle.machine.specs.Runs.{Chose, ChoseAll, WentOn}
+use Rattle.machine.specs.Runs.{ChoseAll, WentOn}
 
 pub record Stays (a b : Machine) : Type 0 where
   pub words : b.words.now ≡ a.words.now
@@ -38,9 +38,6 @@ Amends a k u b = Amended a.words.now a.links k a.table.now a.room.now u b.table.
 
 abbrev pub Delivers : Machine → ℕ → Machine → Type 0
 Delivers a k b = Delivered a.words.now a.links a.destination k a.table.now a.room.now b.table.now b.room.now
-
-abbrev pub Chooses : Machine → ℕ → Counts → Machine → Counts → Type 0
-Chooses a k c b c' = Chose a.words.now a.links a.destination k c a.table.now a.room.now c' b.table.now b.room.now
 
 abbrev pub ChoosesAll : Machine → List ℕ → Machine → Counts → Type 0
 ChoosesAll a cs b c = ChoseAll a.words.now a.links a.destination cs a.table.now a.room.now c b.table.now b.room.now

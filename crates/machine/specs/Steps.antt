@@ -2,6 +2,7 @@
 --
 --   NoneWaits m r i e      nothing waits on the directions from i on before e; FirstWaits m r i e k   on k, but on none before it
 --   FirstBetween m r i e o o is the first of these directions on which something waits
+--   IdleTo m r cs i e      nothing waits on the directions of the choices from i on before e; FirstDelivery m r cs i o   o is the first choice from i on on whose direction something waits
 --   Sent m u w j r r'      r' is r with the word w on the directions that the AS at place u tells over and whose partners are below j
 --   held_over m r          what each arc's neighbour told, as the room holds it
 --   Heard ws m r u k o o'  of the offer o and what is held on direction k, o' is the better for the AS at place u
@@ -37,6 +38,18 @@ pub record FirstWaits (m : ℕ) (r : List ℕ) (i e k : ℕ) : Type 0 where
 
 abbrev pub FirstBetween : ℕ → List ℕ → ℕ → ℕ → Option ℕ → Type 0
 FirstBetween m r i e o = MatchOption o (NoneWaits m r i e) (FirstWaits m r i e)
+
+abbrev pub IdleTo : ℕ → List ℕ → List ℕ → ℕ → ℕ → Type 0
+IdleTo m r cs i e = (j : ℕ) → i ≤ j → j < e → waiting_word m r (get_or cs j 0) ≡ 0
+
+pub record FirstDelivers (m : ℕ) (r cs : List ℕ) (i n : ℕ) : Type 0 where
+  pub after : i ≤ n
+  pub before : n < length cs
+  pub some : waiting_word m r (get_or cs n 0) ≢ 0
+  pub idle : IdleTo m r cs i n
+
+abbrev pub FirstDelivery : ℕ → List ℕ → List ℕ → ℕ → Option ℕ → Type 0
+FirstDelivery m r cs i o = MatchOption o (IdleTo m r cs i (length cs)) (FirstDelivers m r cs i)
 
 pub record Sent (m u w j : ℕ) (r r' : List ℕ) : Type 0 where
   pub long : length r' ≡ length r

@@ -4,30 +4,25 @@ use super::state::Machine;
 
 impl<'a> Machine<'a> {
     ghost use Rattle.std.specs.Prelude.{ℕ, ◌+◌, ◌*◌, ◌≤◌, ◌<◌, length, get_or};
-    ghost use Rattle.machine.specs.States.{Stays, Chooses, ChoosesAll, GoesOn};
+    ghost use Rattle.machine.specs.Steps.{FirstDelivery};
+    ghost use Rattle.machine.specs.States.{Stays, ChoosesAll, GoesOn};
 
-    // One choice: a delivery, or idle where nothing waits.
-    fn take_choice(&mut self, k: usize, counts: Counts) -> Counts
-        requires direction { k < 2 * self.old.links }
-        requires few { counts.made + counts.idle < 131072 }
-        ensures stays { Stays self.old self.new }
-        ensures chooses { Chooses self.old k counts self.new result }
+    // The first choice from one on on whose direction something waits, if there is one.
+    fn next_delivery(&self, choices: &[u32], from: usize) -> Option<usize>
+        requires { (i : ℕ) → i < length choices.now → get_or choices.now i 0 < 2 * self.now.links }
+        ensures { FirstDelivery self.now.links self.now.room.now choices.now from result }
     {
-        if self.waits(k) {
-            self.deliver(k);
-            Counts {
-                made: counts.made + 1,
-                ..counts
-            }
-        } else {
-            Counts {
-                idle: counts.idle + 1,
-                ..counts
+        for i in from..choices.len() {
+            if self.waits(choices[i] as usize) {
+                return Some(i);
             }
         }
+        None
     }
 
     // All choices, in their order.
+    // Kept (b): a `while` from one delivery to the next, not `for k in choices`: idle choices, which may be nearly all, are passed while the machine
+    // is only read, so that its parts need not be loaded again at each; with the `for` they take a quarter more time.
     pub fn take_choices(&mut self, choices: &[u32]) -> Counts
         requires directions { (i : ℕ) → i < length choices.now → get_or choices.now i 0 < 2 * self.old.links }
         requires few { length choices.now ≤ 65536 }
@@ -35,10 +30,19 @@ impl<'a> Machine<'a> {
         ensures chooses { ChoosesAll self.old choices.now self.new result }
     {
         let mut counts = Counts { made: 0, idle: 0 };
-        for k in choices {
-            counts = self.take_choice(*k as usize, counts);
+        let mut passed = 0;
+        while let Some(next) = self.next_delivery(choices, passed) {
+            self.deliver(choices[next] as usize);
+            counts = Counts {
+                made: counts.made + 1,
+                idle: counts.idle + (next - passed),
+            };
+            passed = next + 1;
         }
-        counts
+        Counts {
+            made: counts.made,
+            idle: counts.idle + (choices.len() - passed),
+        }
     }
 
     // So many further deliveries, the lowest waiting direction first, or fewer where nothing waits any more.
